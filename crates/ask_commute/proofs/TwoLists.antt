@@ -12,12 +12,12 @@ use Rattle.spec_language.specs.Syntax.{Program}
 use Rattle.spec_language.specs.Valid.{Valid}
 use Rattle.spec_language.specs.Dependence.{size, events, noEvent}
 use Rattle.spec_model.specs.Model.{Arrival, Turn, rank}
-use Rattle.spec_model.specs.Claims.{eventsOf, takenInBy, historyOf, after, IdleIn, Course, last, thenChange, courseOf}
+use Rattle.spec_model.specs.Claims.{eventsOf, takenInBy, historyOf, after, IdleIn, History, last, thenChange, committedBy}
 use Rattle.spec_model.specs.Sound.{Sound}
 use Rattle.spec_model.proofs.States.{storeIn}
 use Rattle.spec_model.proofs.Confluence.{Declared, Likeness, CommuteBy}
-use Rattle.spec_model.proofs.Courses.{allOf, Known, known, OneSheet, CommuteEach}
-use Rattle.spec_model.proofs.Replaying.{proper}
+use Rattle.spec_model.proofs.Histories.{OneSheet, CommuteEach}
+use Rattle.spec_model.proofs.Replaying.{Known, known}
 use Rattle.spec_model.proofs.SameBoard.{same-likeness}
 use Rattle.ask_commute.specs.Meets.{Cone}
 use Rattle.ask_commute.proofs.OnSet.{Closed, Agree, event-on}
@@ -37,7 +37,7 @@ module _ (p : Program) (R : List ℕ → List ℕ → Type 0) (swap : (a b : Arr
   pub each-pair : (l : List Arrival) → All (Declared p) l → All (λ a. All (CommuteBy p R a) l) l
   each-pair l h = each-with l l h h
 
-declared-one : (p : Program) (c : Course) → OneSheet c → Known p c → All (Declared p) (allOf c)
+declared-one : (p : Program) (c : History) → OneSheet c → Known p c → All (Declared p) (committedBy c)
 declared-one p (last l) g k = k .1
 declared-one p (thenChange l q c) g k = absurd g
 
@@ -56,25 +56,25 @@ module _ (p : Program) (v : Valid p) (D : ℕ → Type 0) (closed : Closed p D) 
       (h (b .event) (a .event) c d (λ q. u (sym q)))
 
   pub same-values : Settled p D → (ts us : List Turn) → All Sound ts → All Sound us → eventsOf (takenInBy p ts) ≡ eventsOf (takenInBy p us)
-      → OneSheet (courseOf (historyOf p ts)) → OneSheet (courseOf (historyOf p us)) → IdleIn (after p ts) → IdleIn (after p us)
+      → OneSheet (historyOf p ts) → OneSheet (historyOf p us) → IdleIn (after p ts) → IdleIn (after p us)
       → Agree p D (storeIn (after p ts)) (storeIn (after p us))
   same-values h ts us gt gu same ot ou it iu =
-      let c : Course = courseOf (historyOf p ts) in
+      let c : History = historyOf p ts in
       same-likeness p v ts us gt gu same it iu (Agree p D) on-set ot ou
-      (each-pair p (Agree p D) (swap-on h) (allOf c) (declared-one p c ot (known p (historyOf p ts) v (proper p v ts gt))))
+      (each-pair p (Agree p D) (swap-on h) (committedBy c) (declared-one p c ot (known p v ts gt)))
 
 -- ---- with changes, where no two events of unequal priority meet in any cone of any sheet
 
 abbrev pub SettledAll : Program → Type 0
 SettledAll p = (b : ℕ) → b < size p → Settled p (Cone p b)
 
-abbrev pub SettledEach : Program → Course → Type 0
+abbrev pub SettledEach : Program → History → Type 0
 SettledEach p (last l) = SettledAll p
 SettledEach p (thenChange l q c) = SettledAll p × SettledEach q c
 
 swap-all : (p : Program) → Valid p → SettledAll p → (a b : Arrival) → Declared p a → Declared p b → CommuteBy p (λ s t. s ≡ t) a b
 swap-all p v h a b d c u s n = all-commute p v h (a .event) (b .event) d c u s n
 
-pub settled-commute : (p : Program) (c : Course) → Known p c → SettledEach p c → CommuteEach p c
+pub settled-commute : (p : Program) (c : History) → Known p c → SettledEach p c → CommuteEach p c
 settled-commute p (last l) k h = each-pair p (λ s t. s ≡ t) (swap-all p (k .0) h) l (k .1)
 settled-commute p (thenChange l q c) k h = (each-pair p (λ s t. s ≡ t) (swap-all p (k .0) (h .0)) l (k .1), settled-commute q c (k .2) (h .1))

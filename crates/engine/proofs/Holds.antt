@@ -17,7 +17,7 @@ use Rattle.spec_semantics.specs.Meaning.{fresh}
 use Rattle.spec_semantics.specs.Plays.{done}
 use Rattle.spec_semantics.proofs.Agreement.{fresh-shows, fresh-alone}
 use Rattle.spec_model.specs.Model.{runTurns}
-use Rattle.spec_model.specs.Claims.{moments, commitsUnder}
+use Rattle.spec_model.specs.Claims.{historyBy}
 use Rattle.format_layout.specs.Layout.{eventWord}
 use Rattle.format_image.specs.Image.{codeStart}
 use Rattle.format_image.specs.Table.{tableOf}
@@ -47,7 +47,7 @@ code-in p t says e h = record {
 
 -- the empty list has the fresh board
 fresh-board : (p : Program) (s ps t₀ l₀ : List ℕ) → OnlyCalls p l₀ (freshRoundOn s ps t₀ l₀) [] → boardOf p (freshRoundOn s ps t₀ l₀ .round) ≡ fresh p
-unfolding runTurns moments commitsUnder bytesAfter
+unfolding runTurns historyBy bytesAfter
 fresh-board p s ps t₀ l₀ h = sym (h .board-alone refl (fresh p) done)
 
 pub every-sheet : EverySheet

@@ -1,5 +1,5 @@
 -- On a sheet that `agree` answers 0 for, any two events of unequal rank are independent, which is the condition of
--- demand 3's last sentence; with changes, of every sheet of the course.
+-- demand 3's last sentence; with changes, of every sheet of the history.
 use Prim.Native.Nat.{ℕ, _<_}
 use mathlib.Core.Path.{_≡_, sym, subst}
 use mathlib.Core.Logic.{_≢_}
@@ -13,7 +13,7 @@ use Rattle.spec_language.specs.Dependence.{Independent}
 use Rattle.spec_language.specs.Grammar.{encode}
 use Rattle.spec_language.specs.Accepted.{SheetAccepted}
 use Rattle.spec_model.specs.Model.{Arrival, Answer, refused, takenIn, shows, idle, ran, started, preempted, committed, rank, Turn, call, change, Reply, says, carriedOver, replies, begun}
-use Rattle.spec_model.specs.Claims.{takenInBy, Moment, commits, changes, ifCommits, momentOf, moments, historyOf, Course, last, thenChange, onward, courseOf, ApartIn, ApartEach}
+use Rattle.spec_model.specs.Claims.{History, last, thenChange, onward, ifCommits, withTurn, historyBy, historyOf, takenInBy, ApartIn, ApartEach}
 use Rattle.back_compile.specs.Compiled.{programOf}
 use Rattle.refine_lists.specs.Lists.{SheetTurn, calling, mending, Compiles, Means, AllMean, Prepared}
 use Rattle.refine_lists.proofs.Sheets.{program-accepted}
@@ -53,55 +53,45 @@ phones-agree s ps qs t₀ l₀ t₁ l₁ x two cs ds same z i j =
     let g = prepared-good s ps t₀ l₀ x (two .one) z in
     two-only-calls-hold s ps qs t₀ l₀ t₁ l₁ x two cs ds same (good-in p g (takenInBy p (map call cs))) i j
 
--- ---- with changes: every program of the course is good
+-- ---- with changes: every program of the history is good
 
 abbrev GoodTurn : Turn → Type 0
 GoodTurn (call c) = Unit {0}
 GoodTurn (change q) = Good q
 
-abbrev GoodMoment : Moment → Type 0
-GoodMoment (commits a) = Unit {0}
-GoodMoment (changes q) = Good q
+abbrev GoodHistory : History → Type 0
+GoodHistory (last l) = Unit {0}
+GoodHistory (thenChange l q h) = Good q × GoodHistory h
 
-abbrev GoodCourse : Course → Type 0
-GoodCourse (last l) = Unit {0}
-GoodCourse (thenChange l q c) = Good q × GoodCourse c
+onward-good : (a : Arrival) (h : History) → GoodHistory h → GoodHistory (onward a h)
+onward-good a (last l) g = tt
+onward-good a (thenChange l q h) g = g
 
-commits-good : (a : Answer) (l : List Moment) → All GoodMoment l → All GoodMoment (ifCommits a l)
-commits-good (refused n) l h = h
-commits-good takenIn l h = h
-commits-good (shows v) l h = h
-commits-good idle l h = h
-commits-good ran l h = h
-commits-good (started a) l h = h
-commits-good (preempted a) l h = h
-commits-good (committed a m) l h = (tt, h)
+commits-good : (a : Answer) (h : History) → GoodHistory h → GoodHistory (ifCommits a h)
+commits-good (refused n) h g = g
+commits-good takenIn h g = g
+commits-good (shows v) h g = g
+commits-good idle h g = g
+commits-good ran h g = g
+commits-good (started a) h g = g
+commits-good (preempted a) h g = g
+commits-good (committed a m) h g = onward-good a h g
 
-moment-good : (t : Turn) (r : Reply) (l : List Moment) → GoodTurn t → All GoodMoment l → All GoodMoment (momentOf t r l)
-moment-good (call c) (says a) l g h = commits-good a l h
-moment-good (call c) carriedOver l g h = h
-moment-good (change q) (says a) l g h = h
-moment-good (change q) carriedOver l g h = (g, h)
+with-good : (t : Turn) (r : Reply) (h : History) → GoodTurn t → GoodHistory h → GoodHistory (withTurn t r h)
+with-good (call c) (says a) h k g = commits-good a h g
+with-good (call c) carriedOver h k g = g
+with-good (change q) (says a) h k g = g
+with-good (change q) carriedOver h k g = (k, g)
 
-moments-good : (ts : List Turn) (rs : List Reply) → All GoodTurn ts → All GoodMoment (moments ts rs)
-unfolding moments
-moments-good [] rs g = tt
-moments-good (t ∷ ts) [] g = tt
-moments-good (t ∷ ts) (r ∷ rs) g = moment-good t r (moments ts rs) (g .0) (moments-good ts rs (g .1))
+history-good : (ts : List Turn) (rs : List Reply) → All GoodTurn ts → GoodHistory (historyBy ts rs)
+unfolding historyBy
+history-good [] rs g = tt
+history-good (t ∷ ts) [] g = tt
+history-good (t ∷ ts) (r ∷ rs) g = with-good t r (historyBy ts rs) (g .0) (history-good ts rs (g .1))
 
-onward-good : (a : Arrival) (c : Course) → GoodCourse c → GoodCourse (onward a c)
-onward-good a (last l) h = tt
-onward-good a (thenChange l q c) h = h
-
-course-good : (h : List Moment) → All GoodMoment h → GoodCourse (courseOf h)
-unfolding courseOf
-course-good [] g = tt
-course-good (commits a ∷ h) g = onward-good a (courseOf h) (course-good h (g .1))
-course-good (changes q ∷ h) g = (g .0, course-good h (g .1))
-
-apart-each : (p : Program) (c : Course) → Good p → GoodCourse c → ApartEach p c
-apart-each p (last l) g h = good-in p g l
-apart-each p (thenChange l q c) g h = (good-in p g l, apart-each q c (h .0) (h .1))
+apart-each : (p : Program) (h : History) → Good p → GoodHistory h → ApartEach p h
+apart-each p (last l) g k = good-in p g l
+apart-each p (thenChange l q h) g k = (good-in p g l, apart-each q h (k .0) (k .1))
 
 turn-good : (x : SheetTurn) (t : Turn) → Means x t → Compiles x → AgreesToo x → GoodTurn t
 turn-good (calling c) (call d) m k a = tt
@@ -118,4 +108,4 @@ rounds-agree s ps qs t₀ l₀ t₁ l₁ x two xs ys k l ts us m n same alike z 
     let p = programOf ps x in
     let g = prepared-good s ps t₀ l₀ x (two .one) (z .0) in
     two-lists-hold s ps qs t₀ l₀ t₁ l₁ x two xs ys k l ts us m n same alike
-    (apart-each p (courseOf (historyOf p ts)) g (course-good (historyOf p ts) (moments-good ts (replies ts (begun p)) (turns-good m k (z .1))))) i j
+    (apart-each p (historyOf p ts) g (history-good ts (replies ts (begun p)) (turns-good m k (z .1)))) i j

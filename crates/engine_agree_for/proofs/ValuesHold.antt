@@ -1,6 +1,6 @@
 -- What a 0 of `agree_for` promises: no two events of unequal rank meet in the behaviour's cone, so that its values are
 -- those of the model engine's lists, which agree there. Where it is 0 for each behaviour, all events of unequal rank
--- commute, in every sheet of the course.
+-- commute, in every sheet of the history.
 use Prim.Native.Nat.{ℕ, _≤_, _<_}
 use mathlib.Core.Path.{_≡_, refl, sym, ap, _∙_, subst}
 use mathlib.Core.Logic.{_≢_, inl}
@@ -13,11 +13,11 @@ use Rattle.spec_language.specs.Valid.{Accepted, Valid}
 use Rattle.spec_language.specs.Dependence.{size}
 use Rattle.spec_semantics.specs.Meaning.{at}
 use Rattle.spec_model.specs.Model.{Arrival, Answer, refused, takenIn, shows, idle, ran, started, preempted, committed, Call, Turn, call, change, Reply, says, carriedOver, replies, begun, State, state, engine}
-use Rattle.spec_model.specs.Claims.{takenInBy, eventsOf, Moment, commits, changes, ifCommits, momentOf, moments, historyOf, Course, last, thenChange, onward, courseOf, inForce, after, IdleIn, committedIn, SameChanges}
+use Rattle.spec_model.specs.Claims.{History, last, thenChange, onward, ifCommits, withTurn, historyBy, historyOf, takenInBy, eventsOf, inForce, after, IdleIn, SameChanges}
 use Rattle.spec_model.specs.Sound.{Sound}
 use Rattle.spec_model.proofs.States.{storeIn}
-use Rattle.spec_model.proofs.Courses.{OneSheet, known}
-use Rattle.spec_model.proofs.Replaying.{proper}
+use Rattle.spec_model.proofs.Histories.{OneSheet}
+use Rattle.spec_model.proofs.Replaying.{known}
 use Rattle.spec_model.proofs.SameBoard.{same-store}
 use Rattle.ask_commute.specs.Meets.{Cone}
 use Rattle.ask_commute.proofs.Cones.{cone-closed}
@@ -32,16 +32,7 @@ use Rattle.ask_agree_for.specs.AgreeFor.{agreeForOn}
 use Rattle.engine_agree_for.specs.OneBehaviour.{OneValue, ZeroForEach, EachAgrees, EachAgreesToo, EachRoundAgrees}
 use Rattle.engine_agree_for.proofs.Answers.{settled, zero-settled}
 
--- ---- a history of commits alone is under one sheet
-
-onward-one : (a : Arrival) (c : Course) → OneSheet c → OneSheet (onward a c)
-onward-one a (last l) h = tt
-onward-one a (thenChange l q c) h = h
-
-commits-one : (l : List Arrival) → OneSheet (courseOf (map commits l))
-unfolding courseOf
-commits-one [] = tt
-commits-one (a ∷ l) = onward-one a (courseOf (map commits l)) (commits-one l)
+-- ---- what a list of calls says
 
 calls-sound : (cs : List Call) → All Sound (map call cs)
 calls-sound [] = tt
@@ -54,8 +45,8 @@ store-view l (state p (engine t q r d)) v = v .store
 -- ---- one list of calls on the bytes b
 
 module _ (p : Program) (l : List ℕ) (b : Bytes) (cs : List Call) (a : OnlyCalls p l b cs) where
-  one-sheet : OneSheet (courseOf (historyOf p (map call cs)))
-  one-sheet = subst (λ (h : List Moment). OneSheet (courseOf h)) (sym (a .history)) (commits-one (committedIn p (map call cs)))
+  one-sheet : OneSheet (historyOf p (map call cs))
+  one-sheet = subst OneSheet (sym (a .history)) tt
 
   board-shows : boardOf p (bytesAfter (map calls cs) b .round) ≡ storeIn (after p (map call cs))
   board-shows = ap (λ (q : Program). boardOf q (bytesAfter (map calls cs) b .round)) (sym (a .in-force)) ∙ store-view _ (after p (map call cs)) (a .list .round)
@@ -77,12 +68,12 @@ one-value s ps qs t₀ l₀ t₁ l₁ x two cs ds same b h z i j =
 
 -- ---- the whole board, of calls alone
 
-same-ones : (c d : Course) → OneSheet c → OneSheet d → SameChanges c d
+same-ones : (c d : History) → OneSheet c → OneSheet d → SameChanges c d
 same-ones (last l) (last m) h k = tt
 same-ones (last l) (thenChange m r d) h k = absurd k
 same-ones (thenChange l q c) d h k = absurd h
 
-settled-one : (p : Program) (c : Course) → OneSheet c → SettledAll p → SettledEach p c
+settled-one : (p : Program) (c : History) → OneSheet c → SettledAll p → SettledEach p c
 settled-one p (last l) h z = z
 settled-one p (thenChange l q c) h z = absurd h
 
@@ -99,59 +90,49 @@ each-agrees s ps qs t₀ l₀ t₁ l₁ x two cs ds same z i j =
     let ht = historyOf p (map call cs) in
     board-shows p l₀ (freshRoundOn s ps t₀ l₀) cs a
     ∙ same-store p v (map call cs) (map call ds) (calls-sound cs) (calls-sound ds) same (a .list .idle .0 i) (c .list .idle .0 j)
-    (same-ones (courseOf ht) (courseOf (historyOf p (map call ds))) oa oc)
-    (settled-commute p (courseOf ht) (known p ht v (proper p v (map call cs) (calls-sound cs))) (settled-one p (courseOf ht) oa all))
+    (same-ones ht (historyOf p (map call ds)) oa oc)
+    (settled-commute p ht (known p v (map call cs) (calls-sound cs)) (settled-one p ht oa all))
     ∙ sym (board-shows p l₁ (freshRoundOn s qs t₁ l₁) ds c)
 
--- ---- with changes: every program of the course is settled
+-- ---- with changes: every program of the history is settled
 
 abbrev GoodTurn : Turn → Type 0
 GoodTurn (call c) = Unit {0}
 GoodTurn (change q) = SettledAll q
 
-abbrev GoodMoment : Moment → Type 0
-GoodMoment (commits a) = Unit {0}
-GoodMoment (changes q) = SettledAll q
+abbrev GoodHistory : History → Type 0
+GoodHistory (last l) = Unit {0}
+GoodHistory (thenChange l q h) = SettledAll q × GoodHistory h
 
-abbrev GoodCourse : Course → Type 0
-GoodCourse (last l) = Unit {0}
-GoodCourse (thenChange l q c) = SettledAll q × GoodCourse c
+onward-good : (a : Arrival) (h : History) → GoodHistory h → GoodHistory (onward a h)
+onward-good a (last l) g = tt
+onward-good a (thenChange l q h) g = g
 
-commits-good : (a : Answer) (l : List Moment) → All GoodMoment l → All GoodMoment (ifCommits a l)
-commits-good (refused n) l h = h
-commits-good takenIn l h = h
-commits-good (shows v) l h = h
-commits-good idle l h = h
-commits-good ran l h = h
-commits-good (started a) l h = h
-commits-good (preempted a) l h = h
-commits-good (committed a m) l h = (tt, h)
+commits-good : (a : Answer) (h : History) → GoodHistory h → GoodHistory (ifCommits a h)
+commits-good (refused n) h g = g
+commits-good takenIn h g = g
+commits-good (shows v) h g = g
+commits-good idle h g = g
+commits-good ran h g = g
+commits-good (started a) h g = g
+commits-good (preempted a) h g = g
+commits-good (committed a m) h g = onward-good a h g
 
-moment-good : (t : Turn) (r : Reply) (l : List Moment) → GoodTurn t → All GoodMoment l → All GoodMoment (momentOf t r l)
-moment-good (call c) (says a) l g h = commits-good a l h
-moment-good (call c) carriedOver l g h = h
-moment-good (change q) (says a) l g h = h
-moment-good (change q) carriedOver l g h = (g, h)
+with-good : (t : Turn) (r : Reply) (h : History) → GoodTurn t → GoodHistory h → GoodHistory (withTurn t r h)
+with-good (call c) (says a) h k g = commits-good a h g
+with-good (call c) carriedOver h k g = g
+with-good (change q) (says a) h k g = g
+with-good (change q) carriedOver h k g = (k, g)
 
-moments-good : (ts : List Turn) (rs : List Reply) → All GoodTurn ts → All GoodMoment (moments ts rs)
-unfolding moments
-moments-good [] rs g = tt
-moments-good (t ∷ ts) [] g = tt
-moments-good (t ∷ ts) (r ∷ rs) g = moment-good t r (moments ts rs) (g .0) (moments-good ts rs (g .1))
+history-good : (ts : List Turn) (rs : List Reply) → All GoodTurn ts → GoodHistory (historyBy ts rs)
+unfolding historyBy
+history-good [] rs g = tt
+history-good (t ∷ ts) [] g = tt
+history-good (t ∷ ts) (r ∷ rs) g = with-good t r (historyBy ts rs) (g .0) (history-good ts rs (g .1))
 
-onward-good : (a : Arrival) (c : Course) → GoodCourse c → GoodCourse (onward a c)
-onward-good a (last l) h = tt
-onward-good a (thenChange l q c) h = h
-
-course-good : (h : List Moment) → All GoodMoment h → GoodCourse (courseOf h)
-unfolding courseOf
-course-good [] g = tt
-course-good (commits a ∷ h) g = onward-good a (courseOf h) (course-good h (g .1))
-course-good (changes q ∷ h) g = (g .0, course-good h (g .1))
-
-settled-each : (p : Program) (c : Course) → SettledAll p → GoodCourse c → SettledEach p c
-settled-each p (last l) g h = g
-settled-each p (thenChange l q c) g h = (g, settled-each q c (h .0) (h .1))
+settled-each : (p : Program) (h : History) → SettledAll p → GoodHistory h → SettledEach p h
+settled-each p (last l) g k = g
+settled-each p (thenChange l q h) g k = (g, settled-each q h (k .0) (k .1))
 
 turn-good : (x : SheetTurn) (t : Turn) → Means x t → Compiles x → EachAgreesToo x → GoodTurn t
 turn-good (calling c) (call d) m k a = tt
@@ -185,6 +166,5 @@ each-round-agrees s ps qs t₀ l₀ t₁ l₁ x two xs ys kx ky ts us mt mu same
     let ht = historyOf p ts in
     store-view _ (after p ts) (a .round)
     ∙ same-store p v ts us st (all-sound mu ky) same (a .idle .0 i) (c .idle .0 j) kept
-    (settled-commute p (courseOf ht) (known p ht v (proper p v ts st))
-    (settled-each p (courseOf ht) all (course-good ht (moments-good ts (replies ts (begun p)) (turns-good mt kx (z .1))))))
+    (settled-commute p ht (known p v ts st) (settled-each p ht all (history-good ts (replies ts (begun p)) (turns-good mt kx (z .1)))))
     ∙ sym (store-view _ (after p us) (c .round))

@@ -22,12 +22,13 @@ use Rattle.spec_language.specs.Rights.{may, maySend}
 use Rattle.spec_language.specs.Sheet.{Sheet}
 use Rattle.spec_language.specs.Syntax.{Program}
 use Rattle.spec_model.specs.Model.{Arrival, arrival, rest, busy, Engine, engine, Call, Turn, call, change, State, state, carriedOver, TurnOutcome, turnOutcome, carriedTo, turn, runTurns, replies, begun}
-use Rattle.spec_model.specs.Claims.{longest, inQueue, Moment, commits, changes, moments, takenTurns, inForce, engineIn, IdleIn, after, programAfter, historyOf, takenInBy, committedIn, eventsOf, Course, last, thenChange, onward, courseOf, SameChanges, unsigned}
+use Rattle.spec_model.specs.Claims.{longest, inQueue, History, last, thenChange, onward, takenTurns, inForce, engineIn, IdleIn, after, programAfter, historyOf, takenInBy, committedIn, eventsOf, SameChanges, unsigned}
 use Rattle.spec_model.specs.Sound.{Sound}
-use Rattle.spec_model.proofs.States.{numberIn, arrivalsCommitted, committed-arrivals}
+use Rattle.spec_model.proofs.States.{numberIn}
+use Rattle.spec_model.proofs.Moments.{Moment, commits, changes, moments, momentsOf, bySheets, history-of, arrivalsCommitted, committed-in}
 use Rattle.spec_model.proofs.Alone.{moments-append, only-commits}
 use Rattle.spec_model.proofs.Choice.{numbers, distinct-numbers, new-number}
-use Rattle.spec_model.proofs.Courses.{rest-same}
+use Rattle.spec_model.proofs.Histories.{rest-same}
 use Rattle.spec_model.proofs.History.{runs-append}
 use Rattle.spec_model.proofs.Once.{idle-empty, once-each}
 use Rattle.format_layout.specs.Layout.{eventCount, sendersAt, taken, behaviourCount}
@@ -61,20 +62,20 @@ use Rattle.engine_order.specs.Changes.{SheetChange, Acceptable, AppTurn,
 use Rattle.engine_order.proofs.Blocks.{takenBy, rows-take, Onward, takes-none}
 use Rattle.engine_order.proofs.PhonesHold.{map-append, calls-leave, calls-stand, appCalls, app-round, app-onward, tells}
 
--- ---- courses
+-- ---- histories
 
 abbrev programIn : SheetChange → Program
 programIn c = programOf (c .params) (c .sheet)
 
--- `done` being committed before it, a course makes the changes of the plan, each where what is committed is what the
+-- `done` being committed before it, a history makes the changes of the plan, each where what is committed is what the
 -- order has up to its place
-abbrev Follows : EventOrder → List Arrival → List SheetChange → Course → Type 0
+abbrev Follows : EventOrder → List Arrival → List SheetChange → History → Type 0
 Follows order done [] (last l) = Unit {0}
 Follows order done [] (thenChange l q c) = ⊥
 Follows order done (x ∷ plan) (last l) = ⊥
 Follows order done (x ∷ plan) (thenChange l q c) = (q ≡ programIn x) × List·Permᴰ (firstEntries (x .at) order) (done ++ l) × Follows order (done ++ l) plan c
 
-follows-onward : (order : EventOrder) (a : Arrival) (done : List Arrival) (plan : List SheetChange) (c : Course) → Follows order (done ++ (a ∷ [])) plan c
+follows-onward : (order : EventOrder) (a : Arrival) (done : List Arrival) (plan : List SheetChange) (c : History) → Follows order (done ++ (a ∷ [])) plan c
     → Follows order done plan (onward a c)
 follows-onward order a done [] (last l) f = tt
 follows-onward order a done [] (thenChange l q c) f = absurd f
@@ -83,13 +84,13 @@ follows-onward order a done (x ∷ plan) (thenChange l q c) f =
     let e : (done ++ (a ∷ [])) ++ l ≡ done ++ (a ∷ l) = append-assoc done (a ∷ []) l in
     (f .0, subst (List·Permᴰ (firstEntries (x .at) order)) e (f .1), subst (λ (d : List Arrival). Follows order d plan c) e (f .2))
 
-follows-commits : (order : EventOrder) (l done : List Arrival) (plan : List SheetChange) (h : List Moment) → Follows order (done ++ l) plan (courseOf h)
-    → Follows order done plan (courseOf (map commits l ++ h))
-unfolding courseOf
-follows-commits order [] done plan h f = subst (λ (d : List Arrival). Follows order d plan (courseOf h)) (append-nil done) f
+follows-commits : (order : EventOrder) (l done : List Arrival) (plan : List SheetChange) (h : List Moment) → Follows order (done ++ l) plan (bySheets h)
+    → Follows order done plan (bySheets (map commits l ++ h))
+unfolding bySheets
+follows-commits order [] done plan h f = subst (λ (d : List Arrival). Follows order d plan (bySheets h)) (append-nil done) f
 follows-commits order (a ∷ l) done plan h f =
-    follows-onward order a done plan (courseOf (map commits l ++ h))
-    (follows-commits order l (done ++ (a ∷ [])) plan h (subst (λ (d : List Arrival). Follows order d plan (courseOf h)) (sym (append-assoc done (a ∷ []) l)) f))
+    follows-onward order a done plan (bySheets (map commits l ++ h))
+    (follows-commits order l (done ++ (a ∷ [])) plan h (subst (λ (d : List Arrival). Follows order d plan (bySheets h)) (sym (append-assoc done (a ∷ []) l)) f))
 
 -- ---- numbers of an order's entries are distinct
 
@@ -108,7 +109,7 @@ entries-distinct n (x ∷ order) =
     (entries-distinct (suc n) order)
 
 -- two that follow one plan have the same changes after the same commits
-same-follow : (order : EventOrder) (plan : List SheetChange) (d e : List Arrival) (c k : Course) → List·Permᴰ d e → Follows order d plan c → Follows order e plan k → SameChanges c k
+same-follow : (order : EventOrder) (plan : List SheetChange) (d e : List Arrival) (c k : History) → List·Permᴰ d e → Follows order d plan c → Follows order e plan k → SameChanges c k
 same-follow order [] d e (last l) (last m) p f g = tt
 same-follow order [] d e (last l) (thenChange m r k) p f g = absurd g
 same-follow order [] d e (thenChange l q c) k p f g = absurd f
@@ -224,12 +225,12 @@ module _ (C : List ℕ → List ℕ → Type 0) (p : Program) (v : Valid p) (l�
     leaves : turnsAfter order xs b ≡ bytesAfter (map onBytes list) b
     made : ChangesMade order xs b
     force : inForce (runTurns means s) ≡ lastIn (inForce s) plan
-    follows : Follows order (arrivalsCommitted (historyOf p past)) plan (courseOf (moments means (replies means s)))
+    follows : Follows order (arrivalsCommitted (momentsOf p past)) plan (bySheets (moments means (replies means s)))
     at-last : Past (past ++ means) (turnsAfter order xs b) (runTurns means s)
 
   -- no turn
   none : (past : List Turn) (b : Bytes) (s : State) → Past past b s → Walk past b s [] []
-  unfolding turnsAfter bytesAfter runTurns replies moments courseOf
+  unfolding turnsAfter bytesAfter runTurns replies moments bySheets
   none past b s h = record {
     list = [];
     compile = tt;
@@ -261,10 +262,10 @@ module _ (C : List ℕ → List ℕ → Type 0) (p : Program) (v : Valid p) (l�
     abbrev l : List ℕ
     l = b .round
 
-    history-on : (ts : List Turn) → arrivalsCommitted (historyOf p (past ++ ts)) ≡ arrivalsCommitted (historyOf p past) ++ arrivalsCommitted (moments ts (replies ts s))
+    history-on : (ts : List Turn) → arrivalsCommitted (momentsOf p (past ++ ts)) ≡ arrivalsCommitted (momentsOf p past) ++ arrivalsCommitted (moments ts (replies ts s))
     history-on ts =
-        ap arrivalsCommitted (moments-append past ts (begun p)) ∙ committed-append (historyOf p past) (moments ts (replies ts (runTurns past (begun p))))
-        ∙ ap (λ (x : State). arrivalsCommitted (historyOf p past) ++ arrivalsCommitted (moments ts (replies ts x))) (h .here)
+        ap arrivalsCommitted (moments-append past ts (begun p)) ∙ committed-append (momentsOf p past) (moments ts (replies ts (runTurns past (begun p))))
+        ∙ ap (λ (x : State). arrivalsCommitted (momentsOf p past) ++ arrivalsCommitted (moments ts (replies ts x))) (h .here)
 
     -- a call of the app
     module _ (c : AppCall) (o : Offered order c) where
@@ -304,9 +305,9 @@ module _ (C : List ℕ → List ℕ → Type 0) (p : Program) (v : Valid p) (l�
             leaves = w .leaves ∙ ap (bytesAfter (map onBytes (w .list))) (sym first) ∙ sym (turns-append (map calling cs) (w .list) b);
             made = w .made;
             force = ap inForce ran ∙ w .force ∙ ap (λ (q : Program). lastIn q plan) (calls-force cs s);
-            follows = subst (λ (k : List Moment). Follows order (arrivalsCommitted (historyOf p past)) plan (courseOf k)) (sym split-up)
-                (follows-commits order row (arrivalsCommitted (historyOf p past)) plan h₁
-                (subst (λ (d : List Arrival). Follows order d plan (courseOf h₁)) (history-on (map call cs)) (w .follows)));
+            follows = subst (λ (k : List Moment). Follows order (arrivalsCommitted (momentsOf p past)) plan (bySheets k)) (sym split-up)
+                (follows-commits order row (arrivalsCommitted (momentsOf p past)) plan h₁
+                (subst (λ (d : List Arrival). Follows order d plan (bySheets h₁)) (history-on (map call cs)) (w .follows)));
             at-last = subst (λ (ts : List Turn). Past ts (turnsAfter order xs b′) (runTurns (map call cs ++ w .means) s)) (append-assoc past (map call cs) (w .means))
                 (subst (Past ((past ++ map call cs) ++ w .means) (turnsAfter order xs b′)) (sym ran) (w .at-last));
           }
@@ -353,21 +354,21 @@ module _ (C : List ℕ → List ℕ → Type 0) (p : Program) (v : Valid p) (l�
       means-it = (c .sheet, refl, ok .1, refl)
 
       -- what is committed then is what the order has up to here
-      all-committed : List·Permᴰ (firstEntries (c .at) order) (arrivalsCommitted (historyOf p past))
+      all-committed : List·Permᴰ (firstEntries (c .at) order) (arrivalsCommitted (momentsOf p past))
       all-committed =
           let k : List·Permᴰ (takenInBy p past) (committedIn p past) = once-each p v past (h .sound) .2 (subst IdleIn (sym (h .here)) idle-now) in
           let n : numberIn s ≡ c .at = sym (tells l₀ b s (h .stand) (omega (arith, h .within))) ∙ at in
-          subst (λ (m : ℕ). List·Permᴰ (firstEntries m order) (arrivalsCommitted (historyOf p past))) n
-          (subst (λ (y : List Arrival). List·Permᴰ y (arrivalsCommitted (historyOf p past))) (h .begun-with)
-          (subst (List·Permᴰ (takenInBy p past)) (committed-arrivals p (historyOf p past)) k))
+          subst (λ (m : ℕ). List·Permᴰ (firstEntries m order) (arrivalsCommitted (momentsOf p past))) n
+          (subst (λ (y : List Arrival). List·Permᴰ y (arrivalsCommitted (momentsOf p past))) (h .begun-with)
+          (subst (List·Permᴰ (takenInBy p past)) (committed-in p past) k))
 
-      history-same : arrivalsCommitted (historyOf p (past ++ (change q ∷ []))) ≡ arrivalsCommitted (historyOf p past) ++ []
+      history-same : arrivalsCommitted (momentsOf p (past ++ (change q ∷ []))) ≡ arrivalsCommitted (momentsOf p past) ++ []
       unfolding moments replies
       history-same = history-on (change q ∷ []) ∙ rw replied
 
       altered : (plan : List SheetChange) (xs : List AppTurn) → Walk (past ++ (change q ∷ [])) (turnOnBytes (mends w′) b .after) v′ plan xs
           → Walk past b s (c ∷ plan) (alters c u ∷ xs)
-      unfolding turnsAfter appTurn bytesAfter runTurns replies moments courseOf
+      unfolding turnsAfter appTurn bytesAfter runTurns replies moments bySheets
       altered plan xs w = record {
         list = mending (encode (c .sheet)) (c .params) u ∷ w .list;
         compile = (turns-to c ok u room, w .compile);
@@ -379,8 +380,8 @@ module _ (C : List ℕ → List ℕ → Type 0) (p : Program) (v : Valid p) (l�
         force = w .force ∙ ap (λ (y : Program). lastIn y plan) (idle-changes q s idle-now .1);
         follows = rw replied (
           refl,
-          subst (List·Permᴰ (firstEntries (c .at) order)) (sym (append-nil (arrivalsCommitted (historyOf p past)))) all-committed,
-          subst (λ (d : List Arrival). Follows order d plan (courseOf (moments (w .means) (replies (w .means) v′)))) history-same (w .follows),
+          subst (List·Permᴰ (firstEntries (c .at) order)) (sym (append-nil (arrivalsCommitted (momentsOf p past)))) all-committed,
+          subst (λ (d : List Arrival). Follows order d plan (bySheets (moments (w .means) (replies (w .means) v′)))) history-same (w .follows),
         );
         at-last = subst (λ (ts : List Turn). Past ts (turnsAfter order xs (turnOnBytes (mends w′) b .after)) (runTurns (w .means) v′))
             (append-assoc past (change q ∷ []) (w .means)) (w .at-last);
@@ -439,9 +440,9 @@ module _ (C : List ℕ → List ℕ → Type 0) (s ps t₀ l₀ : List ℕ) (x :
       count : (u : State) → Stand l₀ end u → behaviourCount (end .table) ≡ size (inForce u)
       count (state q e) h = h .says .behaviour-count
 
-  follow : Follows order [] plan (courseOf (historyOf p (w .means)))
+  follow : Follows order [] plan (historyOf p (w .means))
   unfolding moments replies
-  follow = w .follows
+  follow = subst (Follows order [] plan) (sym (history-of p (w .means))) (w .follows)
 
   took-in : takenInBy p (w .means) ≡ firstEntries (takenNow end) order
   took-in = rw told (w .at-last .begun-with)
@@ -532,7 +533,7 @@ two-changed C hold s ps qs t₀ l₀ t₁ l₁ x r order short plan ok z zs xs y
           ∙ ap (λ (y : Bytes). boardOf (inForce (after p (a .means))) (y .round)) (a .leaves)
           ∙ hold s ps qs t₀ l₀ t₁ l₁ x r (a .list) (b .list) (a .compile) (b .compile) (a .means) (b .means) (a .mean) (b .mean)
           (ap eventsOf (ta ∙ ap (λ (k : ℕ). firstEntries k order) same ∙ sym tb))
-          (same-follow order plan [] [] (courseOf (historyOf p (a .means))) (courseOf (historyOf p (b .means))) (Permᴰ·refl [])
+          (same-follow order plan [] [] (historyOf p (a .means)) (historyOf p (b .means)) (Permᴰ·refl [])
           (follow C s ps t₀ l₀ x (r .one) p refl order short plan ok xs f) (follow C s qs t₁ l₁ x (r .other) p (r .filled) order short plan ok ys g))
           (z, a .holds zs) (subst IdleNow (a .leaves) i) (subst IdleNow (b .leaves) j)
           ∙ sym (ap (λ (y : Bytes). boardOf (inForce (after p (b .means))) (y .round)) (b .leaves))

@@ -12,8 +12,8 @@ use Rattle.spec_execution.specs.Execution.{Values, execute}
 use Rattle.spec_semantics.specs.Meaning.{fresh}
 use Rattle.spec_semantics.specs.Plays.{Plays}
 use Rattle.spec_model.specs.Model.{Arrival, arrival, Running, rest, busy, Engine, engine, initial, Call, arrive, step, board, Answer, refused, takenIn, shows, idle, ran, started, preempted, committed, choose, begin, act, call, State, state, turn, runTurns, replies, begun}
-use Rattle.spec_model.specs.Claims.{number, inQueue, engineIn, Moment, ifCommits, moments, IdleIn, after, engineAfter, copyBackIn, historyOf, committedIn, takenInBy, eventsOf}
-use Rattle.spec_model.proofs.States.{arrivalsCommitted, committed-arrivals}
+use Rattle.spec_model.specs.Claims.{number, inQueue, engineIn, IdleIn, after, engineAfter, copyBackIn, committedIn, takenInBy, eventsOf}
+use Rattle.spec_model.proofs.Moments.{Moment, answered, moments, arrivalsCommitted, committed-in}
 use Rattle.spec_model.proofs.Moves.{Effect, nothing, took, commit, effect, Cases, act-by}
 use Rattle.spec_model.proofs.Calls.{logged, gathered}
 use Rattle.spec_model.proofs.Once.{idle-empty}
@@ -67,7 +67,7 @@ takes-one a t n (b ∷ l) rest d h = absurd (some-in-hand b l h)
 takes-one a t n (b ∷ l) (busy c k) d h = absurd (some-in-hand c (b ∷ l) h)
 
 -- the commits of a history with one more call in front
-commits-first : (c : Call) (x : Answer) (n : ℕ) (h : List Moment) → arrivalsCommitted (ifCommits x h) ≡ logged (effect c x n) [] ++ arrivalsCommitted h
+commits-first : (c : Call) (x : Answer) (n : ℕ) (h : List Moment) → arrivalsCommitted (answered x h) ≡ logged (effect c x n) [] ++ arrivalsCommitted h
 commits-first c (refused k) n h = refl
 commits-first (arrive e who) takenIn n h = refl
 commits-first step takenIn n h = refl
@@ -158,7 +158,7 @@ as-handed-in s ps t₀ l₀ x r cs o i =
     let p : Program = programOf ps x in
     let idle-now : IdleIn (after p (map call cs)) = calls-of s ps t₀ l₀ x r cs .list .idle .0 i in
     let k = in-turn p cs (initial p) tt (patient l₀ p cs (freshRoundOn s ps t₀ l₀) (initial p) (stands-fresh s ps t₀ l₀ x r) o) in
-    committed-arrivals p (historyOf p (map call cs))
+    committed-in p (map call cs)
     ∙ sym (append-nil (committedFrom p cs (begun p)))
     ∙ ap (λ (l : List Arrival). committedFrom p cs (begun p) ++ l) (sym (empty-hand (after p (map call cs)) idle-now))
     ∙ sym k

@@ -22,11 +22,12 @@ use Rattle.spec_semantics.proofs.OverAgrees.{rules-find, rules-find-only}
 use Rattle.spec_model.specs.Model.{Arrival, arrival, Call, step, Answer, committed, act, Turn, call, State, state, says, turn, runTurns, begun}
 use Rattle.spec_model.specs.Claims.{copyBackIn, aloneCalls, eventsOf, takenInBy, SameChanges, ApartEach, last, inForce, engineIn, IdleIn, after, historyFrom, historyOf, Replays, Sentences}
 use Rattle.spec_model.specs.Sound.{Sound}
+use Rattle.spec_model.specs.Evaluated.{replayed}
 use Rattle.spec_model.specs.Told.{previewed}
 use Rattle.spec_model.proofs.States.{numberIn, storeIn}
 use Rattle.spec_model.proofs.History.{runs-append, Fit}
-use Rattle.spec_model.proofs.Boards.{storeAfter, stored}
-use Rattle.spec_model.proofs.Replaying.{proper, replays, replays-alone, board-by-rules}
+use Rattle.spec_model.proofs.Boards.{replayed-sized}
+use Rattle.spec_model.proofs.Replaying.{known, replays, replays-alone, board-by-rules}
 use Rattle.spec_model.proofs.Counts.{mark-right}
 use Rattle.spec_model.proofs.Alone.{calls-run, alone-right}
 use Rattle.spec_model.proofs.ModelHolds.{holds, same-board}

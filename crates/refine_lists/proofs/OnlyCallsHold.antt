@@ -16,13 +16,14 @@ use Rattle.spec_semantics.specs.Plays.{Plays}
 use Rattle.spec_semantics.proofs.PlaysLaws.{plays, plays-alone}
 use Rattle.spec_semantics.proofs.Lengths.{length-fresh}
 use Rattle.spec_model.specs.Model.{Arrival, Call, State, state, call, turn, replies, begun}
-use Rattle.spec_model.specs.Claims.{Moment, Unchanged, commits, committedIn, eventsOf, engineIn, inForce, after, historyOf, takenInBy, copyBackIn, courseOf, last, onward, SameChanges, ApartIn, ApartEach, Course}
+use Rattle.spec_model.specs.Claims.{History, last, Unchanged, committedIn, eventsOf, engineIn, inForce, after, historyOf, takenInBy, copyBackIn, SameChanges, ApartIn, ApartEach}
 use Rattle.spec_model.specs.Evaluated.{replayed}
-use Rattle.spec_model.proofs.States.{storeIn, committed-arrivals}
-use Rattle.spec_model.proofs.Alone.{only-commits}
+use Rattle.spec_model.proofs.States.{storeIn}
+use Rattle.spec_model.proofs.Alone.{only-last}
 use Rattle.spec_model.proofs.Boards.{board-of-commits}
 use Rattle.spec_model.proofs.Confluence.{each-perm}
-use Rattle.spec_model.proofs.Replaying.{Proper, proper}
+use Rattle.spec_model.proofs.Replaying.{Known, events-declared}
+use Rattle.spec_model.proofs.Replaying as sheets
 use Rattle.refine_calls.specs.Refinement.{calls, Bytes, bytesAfter, turnOnBytes}
 use Rattle.refine_calls.specs.Turns.{AreTurns}
 use Rattle.refine_calls.proofs.Refines.{valid}

@@ -118,8 +118,8 @@ pub record OneList (p : Program) (l₀ : List ℕ) (b : Bytes) (xs : List ByteTu
 
 pub record OnlyCalls (p : Program) (l₀ : List ℕ) (b : Bytes) (cs : List Call) : Type 0 where
   pub list : OneList p l₀ b (map calls cs) (map call cs)
-  -- the history is the commits, under one sheet, and further calls change no sheet either, a consequence of what a call's reply can be:
-  -- so the sentences of what follows hold of them
+  -- the history is the commits, under one sheet, and further calls change no sheet either, a consequence of what a
+  -- call's reply can be: so the sentences of what follows hold of them
   pub history : historyOf p (map call cs) ≡ last (committedIn p (map call cs))
   pub unchanged : (ds : List Call) → Unchanged (map call ds) (after p (map call cs))
   -- the sheet stays in force, and "The table is still as compile left it"

@@ -1,6 +1,6 @@
 -- From an idle round an event that is taken in and stepped alone to its commit leaves the store of its meaning under
--- the program in force, and its commit is all that its history holds. Turns that are calls alone act as model's lists of
--- calls do.
+-- the program in force, and its commit is all that their history holds. Turns that are calls alone act as model's
+-- lists of calls do.
 use Prim.Native.Nat.{ℕ, zero, suc, _+_, _-_, _<_}
 use mathlib.Core.Bool.{Bool, true}
 use mathlib.Core.Path.{_≡_, refl, sym, ap, _∙_}

@@ -91,3 +91,8 @@ first-of-equals q = q .0 .0 refl
 before-the-hand : EqualsInOrder W four → 1 < 2
 unfolding beyond exact result over arity handled mentions met find order upTo metAtOnce phaseOne postfix inOrder flatten flatMap copyPart firstPart secondPart restorePart code value inTurn firstPhase starts fresh execute emptied times act turn runTurns replies historyBy
 before-the-hand q = q .1 .0 .0 refl
+
+-- under two sheets, one commit before the change and one after it
+across-a-change : EqualsInOrder wrong mending → 0 < 1
+unfolding beyond exact result over arity handled mentions met find order upTo metAtOnce phaseOne postfix inOrder flatten flatMap copyPart firstPart secondPart restorePart code value inTurn firstPhase starts fresh execute emptied times carriedActives carried act turn runTurns replies historyBy takenTurns
+across-a-change q = q .0 .0 .0 refl

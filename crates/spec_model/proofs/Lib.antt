@@ -22,7 +22,7 @@ pub mod Marks
 pub mod Counts
 pub mod Confluence
 pub mod Unsigned
-pub mod Courses
+pub mod Histories
 pub mod SameBoard
 pub mod OneEvent
 pub mod Alone

@@ -1,6 +1,6 @@
 -- Two lists of turns that take in the same events in the same order, with the same changes after the same commits and
 -- events that commute (or are independent) in each sheet, end in one store when both are idle: each commits what it
--- took in, so their courses hold the same arrivals. With no change, the same up to a likeness of stores.
+-- took in, so their histories hold the same arrivals. With no change, the same up to a likeness of stores.
 use Prim.Native.Nat.{ℕ, suc}
 use mathlib.Core.Bool.{false}
 use mathlib.Core.Path.{_≡_, refl, sym, ap, _∙_, subst}
@@ -22,7 +22,7 @@ use Rattle.spec_model.proofs.Boards.{board-of-commits}
 use Rattle.spec_model.proofs.Replaying.{known}
 use Rattle.spec_model.proofs.Once.{once-each, idle-hand}
 use Rattle.spec_model.proofs.Equals.{commits-in-order}
-use Rattle.spec_model.proofs.Courses.{Orderly, orderly, CommuteEach, apart-commute, same-course, OneSheet, alike-course}
+use Rattle.spec_model.proofs.Histories.{Orderly, orderly, CommuteEach, apart-commute, same-history, OneSheet, alike-history}
 use Rattle.spec_model.proofs.Confluence.{Likeness, CommuteBy}
 
 -- the arrivals taken in, without their players, are their events numbered from n on
@@ -49,15 +49,15 @@ no-copy-back (state p (engine t waiting rest d)) h = refl
 no-copy-back (state p (engine t waiting (busy a c) d)) h = cc
 
 module _ (p : Program) (v : Valid p) where
-  -- when idle, the store is that of the course, and the course's arrivals are those taken in
+  -- when idle, the store is that of the history, and its arrivals are those taken in
   idle-store : (ts : List Turn) → All Sound ts → IdleIn (after p ts) → storeIn (after p ts) ≡ replayed p (historyOf p ts) (fresh p)
   idle-store ts g h = board-of-commits p v ts g (no-copy-back (after p ts) (idle-hand p v (after p ts) h))
 
-  idle-course : (ts : List Turn) → All Sound ts → IdleIn (after p ts) → List·Permᴰ (takenInBy p ts) (committedBy (historyOf p ts))
-  idle-course ts g h = once-each p v ts g .2 h
+  idle-history : (ts : List Turn) → All Sound ts → IdleIn (after p ts) → List·Permᴰ (takenInBy p ts) (committedBy (historyOf p ts))
+  idle-history ts g h = once-each p v ts g .2 h
 
-  pub distinct-course : (ts : List Turn) → All Sound ts → IdleIn (after p ts) → List·Nodup (numbers (committedBy (historyOf p ts)))
-  distinct-course ts g h = distinct-numbers (idle-course ts g h) (once-each p v ts g .1)
+  pub distinct-history : (ts : List Turn) → All Sound ts → IdleIn (after p ts) → List·Nodup (numbers (committedBy (historyOf p ts)))
+  distinct-history ts g h = distinct-numbers (idle-history ts g h) (once-each p v ts g .1)
 
   -- under each sheet, those of equal priority go by number
   in-order : (ts : List Turn) → All Sound ts → Orderly p (historyOf p ts)
@@ -76,14 +76,14 @@ module _ (p : Program) (v : Valid p) where
     same-arrivals =
         let taken : allUnsigned (takenInBy p us) ≡ allUnsigned (takenInBy p ts) =
         taken-numbered us (replies us (begun p)) 0 ∙ ap (numbered 0) (sym same) ∙ sym (taken-numbered ts (replies ts (begun p)) 0) in
-        List·Permᴰ·trans (Permᴰ·symm (Permᴰ·map unsigned (idle-course ts gt it)))
-        (subst (λ (l : List Arrival). List·Permᴰ l (allUnsigned (committedBy other))) taken (Permᴰ·map unsigned (idle-course us gu iu)))
+        List·Permᴰ·trans (Permᴰ·symm (Permᴰ·map unsigned (idle-history ts gt it)))
+        (subst (λ (l : List Arrival). List·Permᴰ l (allUnsigned (committedBy other))) taken (Permᴰ·map unsigned (idle-history us gu iu)))
 
     -- where those of unequal priority commute in each sheet
     pub same-store : SameChanges one other → CommuteEach p one → storeIn (after p ts) ≡ storeIn (after p us)
     same-store kept commute =
         idle-store ts gt it
-        ∙ same-course p one other (fresh p) (length-fresh p) kept same-arrivals (distinct-course ts gt it) (known p v ts gt) commute
+        ∙ same-history p one other (fresh p) (length-fresh p) kept same-arrivals (distinct-history ts gt it) (known p v ts gt) commute
         (in-order ts gt) (in-order us gu)
         ∙ sym (idle-store us gu iu)
 
@@ -92,7 +92,7 @@ module _ (p : Program) (v : Valid p) where
         → R (storeIn (after p ts)) (storeIn (after p us))
     same-likeness R like g h commute =
         rw (idle-store ts gt it, idle-store us gu iu)
-        (alike-course p R like one other (fresh p) (length-fresh p) g h same-arrivals (distinct-course ts gt it) (known p v ts gt) commute
+        (alike-history p R like one other (fresh p) (length-fresh p) g h same-arrivals (distinct-history ts gt it) (known p v ts gt) commute
         (in-order ts gt) (in-order us gu))
 
   pub same-board : (ts us : List Turn) → All Sound ts → All Sound us → SameBoard p ts us

@@ -1,7 +1,7 @@
--- Two courses with the same changes after the same commits lead to one store, if in each sheet those of unequal
+-- Two histories with the same changes after the same commits lead to one store, if in each sheet those of unequal
 -- priority commute (they do where they are independent) and those of equal priority go by number: under each sheet the
 -- commits are confluent, and a change is a function of the store. What was committed under the last sheet is what is
--- left of the same arrivals. By induction on the courses.
+-- left of the same arrivals. By induction on the histories.
 use Prim.Native.Nat.{ℕ, _<_}
 use mathlib.Core.Path.{_≡_, refl, sym, ap, _∙_, subst}
 use mathlib.Core.List.{List, [], _∷_, _++_, List·Nodup, nodup-append, Pairwise, Pairwise·nil, Pairwise·cons, pairwise-cons, Pairwise·of-cons, List·Permᴰ, List·Permᴰ·trans, Permᴰ·symm, Permᴰ·append-right}
@@ -141,34 +141,34 @@ pub apart-commute : (p : Program) (c : History) → Known p c → ApartEach p c 
 apart-commute p (last l) k a = commutes-in p (k .0) l (k .1) a
 apart-commute p (thenChange l q c) k a = (commutes-in p (k .0) l (k .1) (a .0), apart-commute q c (k .2) (a .1))
 
--- ---- two courses
+-- ---- two histories
 
-pub same-course : (p : Program) (c d : History) (s : List ℕ) → length s ≡ size p → SameChanges c d → List·Permᴰ (allUnsigned (committedBy c)) (allUnsigned (committedBy d))
+pub same-history : (p : Program) (c d : History) (s : List ℕ) → length s ≡ size p → SameChanges c d → List·Permᴰ (allUnsigned (committedBy c)) (allUnsigned (committedBy d))
     → List·Nodup (numbers (committedBy c)) → Known p c → CommuteEach p c → Orderly p c → Orderly p d → replayed p c s ≡ replayed p d s
 unfolding replayed
-same-course p (last l) (last m) s n h e z k a oc od = one-sheet p (k .0) (λ x y. x ≡ y) (one-store p) l m s n e z (k .1) a oc od
-same-course p (last l) (thenChange m r d) s n h e z k a oc od = absurd h
-same-course p (thenChange l q c) (last m) s n h e z k a oc od = absurd h
-same-course p (thenChange l q c) (thenChange m r d) s n h e z k a oc od =
+same-history p (last l) (last m) s n h e z k a oc od = one-sheet p (k .0) (λ x y. x ≡ y) (one-store p) l m s n e z (k .1) a oc od
+same-history p (last l) (thenChange m r d) s n h e z k a oc od = absurd h
+same-history p (thenChange l q c) (last m) s n h e z k a oc od = absurd h
+same-history p (thenChange l q c) (thenChange m r d) s n h e z k a oc od =
     let first : play p (eventsOf l) s ≡ play p (eventsOf m) s = one-sheet p (k .0) (λ x y. x ≡ y) (one-store p) l m s n (h .0) (nodup-left l (committedBy c) z) (k .1) (a .0) (oc .0) (od .0) in
     let w : List·Permᴰ (allUnsigned l ++ allUnsigned (committedBy c)) (allUnsigned m ++ allUnsigned (committedBy d)) = rw (← unsigned-append l (committedBy c), ← unsigned-append m (committedBy d)) e in
     let y : List·Nodup (numbers (allUnsigned l ++ allUnsigned (committedBy c))) = rw (← unsigned-append l (committedBy c), same-numbers (l ++ committedBy c)) z in
     let left : List·Permᴰ (allUnsigned (committedBy c)) (allUnsigned (committedBy d)) = rest-same (allUnsigned l) (allUnsigned m) (allUnsigned (committedBy c)) (allUnsigned (committedBy d)) (h .0) w y in
-    same-course q c d (carried p q (play p (eventsOf l) s)) (length-carried p q (play p (eventsOf l) s)) (h .2) left (nodup-right l (committedBy c) z) (k .2) (a .1) (oc .1)
+    same-history q c d (carried p q (play p (eventsOf l) s)) (length-carried p q (play p (eventsOf l) s)) (h .2) left (nodup-right l (committedBy c) z) (k .2) (a .1) (oc .1)
     (subst (λ (x : Program). Orderly x d) (sym (h .1)) (od .1))
     ∙ ap (λ (x : List ℕ). replayed q d (carried p q x)) first
     ∙ ap (λ (x : Program). replayed x d (carried p x (play p (eventsOf m) s))) (h .1)
 
--- ---- two courses under one sheet, up to a likeness
+-- ---- two histories under one sheet, up to a likeness
 
 abbrev pub OneSheet : History → Type 0
 OneSheet (last l) = Unit {0}
 OneSheet (thenChange l q c) = ⊥
 
-pub alike-course : (p : Program) (R : List ℕ → List ℕ → Type 0) (like : Likeness p R) (c d : History) (s : List ℕ) → length s ≡ size p → OneSheet c → OneSheet d
+pub alike-history : (p : Program) (R : List ℕ → List ℕ → Type 0) (like : Likeness p R) (c d : History) (s : List ℕ) → length s ≡ size p → OneSheet c → OneSheet d
     → List·Permᴰ (allUnsigned (committedBy c)) (allUnsigned (committedBy d)) → List·Nodup (numbers (committedBy c)) → Known p c → All (λ a. All (CommuteBy p R a) (committedBy c)) (committedBy c)
     → Orderly p c → Orderly p d → R (replayed p c s) (replayed p d s)
 unfolding replayed
-alike-course p R like (last l) (last m) s n g h e z k a oc od = one-sheet p (k .0) R like l m s n e z (k .1) a oc od
-alike-course p R like (last l) (thenChange m r d) s n g h e z k a oc od = absurd h
-alike-course p R like (thenChange l q c) d s n g h e z k a oc od = absurd g
+alike-history p R like (last l) (last m) s n g h e z k a oc od = one-sheet p (k .0) R like l m s n e z (k .1) a oc od
+alike-history p R like (last l) (thenChange m r d) s n g h e z k a oc od = absurd h
+alike-history p R like (thenChange l q c) d s n g h e z k a oc od = absurd g
