@@ -336,22 +336,42 @@ fn edges() -> Vec<Vec<u8>> {
 
 // ---- lists of turns
 
-/// A list of turns as it is made: the turns, what the plain engine replies, and what is told of it.
+/// A list of turns as it is made: the turns, what the plain engine replies, and what is told of it: the changes, each
+/// with the arrivals committed before it and after the last one, those committed since, and the arrivals taken in.
 struct Turns {
     model: Model,
     turns: Vec<String>,
     replies: Vec<String>,
-    history: Vec<String>,
+    changes: Vec<(Vec<String>, String)>,
+    commits: Vec<String>,
     taken: Vec<String>,
 }
 
 impl Turns {
+    fn new(sheet: &Sheet) -> Turns {
+        Turns {
+            model: Model::new(sheet.clone()),
+            turns: vec![],
+            replies: vec![],
+            changes: vec![],
+            commits: vec![],
+            taken: vec![],
+        }
+    }
+
+    /// The history by sheets, with these commits under the last.
+    fn history(&self, commits: &[String]) -> String {
+        self.changes.iter().rev().fold(format!("last {}", list(commits.iter().cloned())), |rest, (before, name)| {
+            format!("thenChange {} {name} ({rest})", list(before.iter().cloned()))
+        })
+    }
+
     fn call(&mut self, c: Call) {
         let number = self.model.taken;
         let a = self.model.call(c);
         match (c, a) {
             (Call::Arrive(e, who), Answer::Taken) => self.taken.push(arrival((number, e as usize, who))),
-            (_, Answer::Committed(a, _)) => self.history.push(format!("commits {}", arrival(a))),
+            (_, Answer::Committed(a, _)) => self.commits.push(arrival(a)),
             _ => {}
         }
         self.turns.push(call(c));
@@ -362,7 +382,7 @@ impl Turns {
         self.turns.push(format!("change {name}"));
         match self.model.change(sheet) {
             0 => {
-                self.history.push(format!("changes {name}"));
+                self.changes.push((std::mem::take(&mut self.commits), name.into()));
                 self.replies.push("carriedOver".into());
             }
             n => self.replies.push(says(Answer::Refused(n))),
@@ -393,8 +413,7 @@ fn small(s: &[u8], sheet: &Sheet) -> bool {
 impl Page {
     /// A list of some 70 turns, with changes of sheets; its replies, what they tell, and the engine after it.
     fn turns(&mut self, r: &mut Rng, p: &str, sheet: &Sheet) {
-        let mut list =
-            Turns { model: Model::new(sheet.clone()), turns: vec![], replies: vec![], history: vec![], taken: vec![] };
+        let mut list = Turns::new(sheet);
         let mut force = p.to_string();
         let most = if sheet.ranks.is_empty() { 8 } else { 70 };
         while list.turns.len() < most {
@@ -417,11 +436,13 @@ impl Page {
     }
 
     fn told(&mut self, r: &mut Rng, p: &str, force: &str, list: Turns) {
+        let more = [&list.commits[..], &[arrival((0, 0, 0))]].concat();
+        let history = Value::Other(list.history(&list.commits), list.history(&more));
         let turns = self::list(list.turns);
         let model = list.model;
         let engine = format!("(engineAfter {p} {turns})");
         self.list("replies", format!("replies {turns} (begun {p})"), list.replies);
-        self.list("histories", format!("historyOf {p} {turns}"), list.history);
+        self.add("histories", format!("historyOf {p} {turns}"), history);
         self.list("taken in", format!("takenInBy {p} {turns}"), list.taken);
         let mut other = model.clone();
         other.taken += 1;
