@@ -74,7 +74,7 @@ fn name_at(text: &[u8], at: usize, names: &[usize], count: usize) -> Due
         return d;
     };
     if source_names::is_among(text, p, names, count) {
-        return Due::Fault(fault_in(faults::DECLARED_TWICE, p));
+        return Due::Fault(fault_word(faults::DECLARED_TWICE, p));
     }
     Due::Found(p, 0, next)
 }
@@ -92,13 +92,13 @@ fn count_at(text: &[u8], at: usize, i: usize) -> Due
         return d;
     };
     if v < LEAST_CELLS {
-        return Due::Fault(fault_in(faults::OFF_SCALE, p));
+        return Due::Fault(fault_word(faults::OFF_SCALE, p));
     }
     if MOST_CELLS < v {
-        return Due::Fault(fault_in(faults::OFF_SCALE, p));
+        return Due::Fault(fault_word(faults::OFF_SCALE, p));
     }
     if limits::BEHAVIOURS < i + (v as usize) {
-        return Due::Fault(fault_in(faults::TOO_MANY, p));
+        return Due::Fault(fault_word(faults::TOO_MANY, p));
     }
     closed_at(text, next, p, v)
 }
@@ -185,7 +185,7 @@ fn behaviour_at(
     ensures { λ _. ⌜ length (now (out .exit)) ≡ length (now (out .entry)) ⌝ }
 {
     if limits::BEHAVIOURS <= i {
-        return Behaviour::Fault(fault_in(faults::TOO_MANY, q));
+        return Behaviour::Fault(fault_word(faults::TOO_MANY, q));
     }
     let name = name_at(text, at, names, count);
     let Due::Found(p, _, next) = name else {
@@ -318,10 +318,10 @@ fn end_fault(text: &[u8], at: usize) -> u64
 {
     let t = source_tokens::token_at(text, at);
     let Token::Sign(p, c, _) = t else {
-        return fault_in(faults::OUTSIDE, source_tokens::place_of(t));
+        return fault_word(faults::OUTSIDE, source_tokens::place_of(t));
     };
     if c != signs::END {
-        return fault_in(faults::OUTSIDE, p);
+        return fault_word(faults::OUTSIDE, p);
     }
     0
 }

@@ -84,10 +84,10 @@ fn more_players(text: &[u8], at: usize) -> Rights
             }
             Token::Number(p, v, next) => {
                 if limits::LARGEST < v {
-                    return Rights::Fault(fault_in(faults::LARGE_NUMBER, p));
+                    return Rights::Fault(fault_word(faults::LARGE_NUMBER, p));
                 }
                 if limits::HIGHEST_PLAYER < v {
-                    return Rights::Fault(fault_in(faults::OFF_SCALE, p));
+                    return Rights::Fault(fault_word(faults::OFF_SCALE, p));
                 }
                 bits = with_player(bits, v);
                 here = next;
@@ -106,10 +106,10 @@ fn players_at(text: &[u8], at: usize) -> Rights
     let t = source_tokens::token_at(text, at);
     match t {
         Token::Number(_, _, _) => more_players(text, at),
-        Token::Name(p, _) => Rights::Fault(fault_in(faults::OUTSIDE, p)),
+        Token::Name(p, _) => Rights::Fault(fault_word(faults::OUTSIDE, p)),
         Token::Sign(p, c, next) => {
             if c != signs::NOBODY {
-                return Rights::Fault(fault_in(faults::OUTSIDE, p));
+                return Rights::Fault(fault_word(faults::OUTSIDE, p));
             }
             Rights::Given(next, 0)
         }
@@ -178,14 +178,14 @@ fn parameter_at(text: &[u8], p: usize, at: usize, names: &[usize], count: usize)
     ensures { λ r. ⌜ ParameterWithin (length (now (text .entry))) at r ⌝ }
 {
     if sheet::PARAMETERS <= count {
-        return Due::Fault(fault_in(faults::TOO_MANY, p));
+        return Due::Fault(fault_word(faults::TOO_MANY, p));
     }
     let name = source_due::name_due(text, at);
     let Due::Found(q, _, next) = name else {
         return name;
     };
     if source_names::is_among(text, q, names, count) {
-        return Due::Fault(fault_in(faults::DECLARED_TWICE, q));
+        return Due::Fault(fault_word(faults::DECLARED_TWICE, q));
     }
     default_at(text, q, next)
 }
@@ -232,7 +232,7 @@ fn ranked_at(text: &[u8], q: usize, at: usize) -> Event
         return Event::Fault(fault_in(rank));
     };
     if (sheet::HIGHEST_PRIORITY as u64) < n {
-        return Event::Fault(fault_in(faults::OFF_SCALE, p));
+        return Event::Fault(fault_word(faults::OFF_SCALE, p));
     }
     let rights = from_at(text, next);
     match rights {
@@ -253,14 +253,14 @@ fn event_from(text: &[u8], p: usize, at: usize, events: &[usize], count: usize) 
     ensures { λ r. ⌜ EventWithin (length (now (text .entry))) at r ⌝ }
 {
     if sheet::EVENTS <= count {
-        return Event::Fault(fault_in(faults::TOO_MANY, p));
+        return Event::Fault(fault_word(faults::TOO_MANY, p));
     }
     let name = source_due::name_due(text, at);
     let Due::Found(q, _, next) = name else {
         return Event::Fault(fault_in(name));
     };
     if source_names::is_among(text, q, events, count) {
-        return Event::Fault(fault_in(faults::DECLARED_TWICE, q));
+        return Event::Fault(fault_word(faults::DECLARED_TWICE, q));
     }
     ranked_at(text, q, next)
 }

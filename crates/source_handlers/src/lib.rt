@@ -65,10 +65,10 @@ fn event_due(text: &[u8], at: usize, events: &[usize], handled: &[u8]) -> Due
     };
     let e = source_names::index_of(text, p, events);
     if handled[e] == 1 {
-        return Due::Fault(fault_in(faults::SECOND_HANDLER, p));
+        return Due::Fault(fault_word(faults::SECOND_HANDLER, p));
     }
     if e == events.len() {
-        return Due::Fault(fault_in(faults::UNKNOWN_NAME, p));
+        return Due::Fault(fault_word(faults::UNKNOWN_NAME, p));
     }
     Due::Found(p, e as u64, next)
 }

@@ -31,11 +31,11 @@ use Rattle.text_parser.proofs.+argument+choice+conjunction+disjunction+
 use Rattle.text_parser.proofs.ordering.Reads as ordering
 use Rattle.text_parser.proofs.ordering.Kinds as ordering-kinds
 use Rattle.text_parser.proofs.+argument+choice+conjunction+disjunction+equality+operand+ordering+product+sum.Lts-ordering as ordering-lts
-use Rattle.text_parser.proofs.products.Reads as product
-use Rattle.text_parser.proofs.products.Kinds as product-kinds
+use Rattle.text_parser.proofs.product.Reads as product
+use Rattle.text_parser.proofs.product.Kinds as product-kinds
 use Rattle.text_parser.proofs.+argument+choice+conjunction+disjunction+equality+operand+ordering+product+sum.Lts-product as product-lts
-use Rattle.text_parser.proofs.sums.Reads as sum
-use Rattle.text_parser.proofs.sums.Kinds as sum-kinds
+use Rattle.text_parser.proofs.sum.Reads as sum
+use Rattle.text_parser.proofs.sum.Kinds as sum-kinds
 use Rattle.text_parser.proofs.+argument+choice+conjunction+disjunction+equality+operand+ordering+product+sum.Lts-sum as sum-lts
 use Rattle.text_phrase.proofs.close.Reads as close-reads
 use Rattle.text_phrase.proofs.ended.Reads as ended-reads
