@@ -70,27 +70,26 @@ fn merge(x: usize, y: usize) -> usize
     x & y
 }
 
-// The field of the events at place i of s and at place j of t, which have a and b bytes.
-fn put_pair(
-    s: &[u8],
-    i: usize,
-    a: usize,
-    t: &[u8],
-    j: usize,
-    b: usize,
-    out: &mut [u8],
-    k: usize,
-) -> usize
-    requires { ⌜ (i + a ≤ length (now s)) × (j + b ≤ length (now t)) × (k + pairField ≤ length (now out)) × (k ≤ eventsRoom) ⌝ }
-    ensures { λ n. ⌜ BytesWritten (now (out .entry)) k (pairBytes (now (s .entry)) i a (now (t .entry)) j b) (now (out .exit)) n ⌝ }
+// Where an event's field stands in its sheet, and how many bytes it has: none where there is no event.
+struct Event {
+    at: usize,
+    size: usize,
+}
+
+// The field of event a of s and event b of t.
+fn put_pair(s: &[u8], a: Event, t: &[u8], b: Event, out: &mut [u8], k: usize) -> usize
+    requires { ⌜ (a .at + a .size ≤ length (now s)) × (b .at + b .size ≤ length (now t))
+        × (k + pairField ≤ length (now out)) × (k ≤ eventsRoom) ⌝ }
+    ensures { λ n. ⌜ BytesWritten (now (out .entry)) k
+        (pairBytes (now (s .entry)) (a .at) (a .size) (now (t .entry)) (b .at) (b .size)) (now (out .exit)) n ⌝ }
     ensures { λ n. ⌜ n ≤ k + pairField ⌝ }
 {
-    let m = merge(sender(s, i, a), sender(t, j, b));
-    if a != 0 {
-        return sheet_write::put_event(out, k, rank(s, i, a), m as u64);
+    let m = merge(sender(s, a.at, a.size), sender(t, b.at, b.size));
+    if a.size != 0 {
+        return sheet_write::put_event(out, k, rank(s, a.at, a.size), m as u64);
     }
-    if b != 0 {
-        return sheet_write::put_event(out, k, rank(t, j, b), m as u64);
+    if b.size != 0 {
+        return sheet_write::put_event(out, k, rank(t, b.at, b.size), m as u64);
     }
     k
 }
@@ -108,7 +107,9 @@ pub fn put_events(s: &[u8], t: &[u8], out: &mut [u8]) -> usize
     while n < limits::EVENTS {
         let a = width(s, i);
         let b = width(t, j);
-        k = put_pair(s, i, a, t, j, b, out, k);
+        let first = Event { at: i, size: a };
+        let second = Event { at: j, size: b };
+        k = put_pair(s, first, t, second, out, k);
         i += a;
         j += b;
         n += 1;

@@ -56,7 +56,7 @@ loop-again c =
     turn-on (at-loop .loop .inv) (at-loop-test .loop-test .taken) (at-width .width .ensures .0)
     (at-width .width .ensures .1) (at-width2 .width2 .ensures .0) (at-width2 .width2 .ensures .1)
     (at-put-pair .put-pair .ensures .0) (at-put-pair .put-pair .ensures .1)
-    (at-put-pair .put-pair .kept .1 .1 .1 .1 .1 .1 .0)
+    (at-put-pair .put-pair .kept .1 .1 .1 .1 .0)
 
 same-length : tie.Need-same-length Inv-loop μ-loop
 same-length c = c .before .loop .inv .kept
