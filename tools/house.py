@@ -359,7 +359,7 @@ MOST_PARAMETERS = 7
 MOST_CLAUSES = 6
 CONTRACT_WIDTH = 160
 # functions that have more parameters still
-WITH_MORE = {"put_term", "behaviour_at", "behaviours_at"}
+WITH_MORE = {"behaviour_at", "behaviours_at"}
 # crates whose contracts have more clauses or columns still
 CRATES_WITH_MORE = {"source_index"}
 # its parameters, and its contract as far as the body

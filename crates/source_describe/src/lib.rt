@@ -17,6 +17,7 @@ use source_coding::limits as texts;
 use source_coding::signs;
 use source_pen::Pen;
 use source_terms::BEHAVIOUR;
+use source_terms::Expression;
 use source_terms::LOOSEST;
 use source_terms::PARAMETER;
 use source_terms::put_term;
@@ -89,7 +90,12 @@ fn write_handler(
     let on = write_sign(out, pen, signs::ON);
     let named = write_name(out, on, EVENT, event);
     let phased = put_phase(out, named, phase);
-    put_term(s, first, heads, body, limits::NESTING, LOOSEST, out, phased)
+    let due = Expression {
+        at: body,
+        room: limits::NESTING,
+        level: LOOSEST,
+    };
+    put_term(s, first, heads, due, out, phased)
 }
 
 // The handlers from a place on.
@@ -216,7 +222,12 @@ fn put_passive(
     let word = write_sign(out, pen, signs::PASSIVE);
     let named = write_name(out, word, BEHAVIOUR, j);
     let equals = write_sign(out, named, signs::EQUALS);
-    let defined = put_term(s, first, heads, at, limits::NESTING, LOOSEST, out, equals);
+    let due = Expression {
+        at,
+        room: limits::NESTING,
+        level: LOOSEST,
+    };
+    let defined = put_term(s, first, heads, due, out, equals);
     write_viewers(s, viewers, out, defined)
 }
 

@@ -213,43 +213,64 @@ fn put_between(out: &mut [u8], pen: Pen, f: u8) -> Pen
 // The level of the loosest operators: where it is due, nothing is in brackets.
 pub const LOOSEST: u64 = levels::DISJUNCTION;
 
-// The expression at a place, nested at most `room` deep, where a level is due.
+// An expression's place, how deep it may nest, and the level that is due.
+pub struct Expression {
+    pub at: usize,
+    pub room: usize,
+    pub level: u64,
+}
+
+// The expression at its place.
 pub fn put_term(
     s: &[u8],
     first: usize,
     heads: &[u8; BYTE],
-    at: usize,
-    room: usize,
-    level: u64,
+    due: Expression,
     out: &mut [u8],
     pen: Pen,
 ) -> Pen
-    requires { ⌜ (first ≤ length (now s)) × (at ≤ length (now s)) × HeadsOf (now s) first (now heads) ⌝ }
+    requires { ⌜ (first ≤ length (now s)) × (due .at ≤ length (now s)) × HeadsOf (now s) first (now heads) ⌝ }
     requires { ⌜ pen .at ≤ penLimit ⌝ }
     ensures { λ r. ⌜ TokensPut (now (out .entry)) (now (out .exit)) pen r
-        (termTokens (length (now (s .entry))) (drop first (now (s .entry))) room level (drop at (now (s .entry)))) ⌝ }
+        (termTokens (length (now (s .entry))) (drop first (now (s .entry))) (due .room) (due .level)
+        (drop (due .at) (now (s .entry)))) ⌝ }
 {
-    if room == 0 {
+    if due.room == 0 {
         return pen;
     }
-    if byte_from(s, at, 0) != tags::APPLICATION {
-        return write_leaf(s, first, heads, at, out, pen);
+    if byte_from(s, due.at, 0) != tags::APPLICATION {
+        return write_leaf(s, first, heads, due.at, out, pen);
     }
-    let f = byte_from(s, at, sizes::HEADER);
-    let one = onward(s, at, sizes::BYTE_HEAD);
-    let headed = put_head(out, pen, f, level);
-    let after_one = put_term(s, first, heads, one, room - 1, first_level(f), out, headed);
+    let f = byte_from(s, due.at, sizes::HEADER);
+    let one = onward(s, due.at, sizes::BYTE_HEAD);
+    let headed = put_head(out, pen, f, due.level);
+    let first_due = Expression {
+        at: one,
+        room: due.room - 1,
+        level: first_level(f),
+    };
+    let after_one = put_term(s, first, heads, first_due, out, headed);
     if f == functions::NOT {
         return after_one;
     }
     let two = after_field(s, one);
     let joined = put_between(out, after_one, f);
-    let after_two = put_term(s, first, heads, two, room - 1, second_level(f), out, joined);
+    let second_due = Expression {
+        at: two,
+        room: due.room - 1,
+        level: second_level(f),
+    };
+    let after_two = put_term(s, first, heads, second_due, out, joined);
     if f != functions::IF {
-        return put_unless(out, after_two, f, level, signs::CLOSING);
+        return put_unless(out, after_two, f, due.level, signs::CLOSING);
     }
     let three = after_field(s, two);
     let comma = write_sign(out, after_two, signs::COMMA);
-    let after_three = put_term(s, first, heads, three, room - 1, LOOSEST, out, comma);
+    let third_due = Expression {
+        at: three,
+        room: due.room - 1,
+        level: LOOSEST,
+    };
+    let after_three = put_term(s, first, heads, third_due, out, comma);
     write_sign(out, after_three, signs::CLOSING)
 }

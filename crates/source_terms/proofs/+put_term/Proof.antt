@@ -23,7 +23,7 @@ use Rattle.source_terms.proofs.+put_term.{statement}
 use Rattle.source_terms.proofs.+put_term.Tie.{close}
 
 abbrev μ-put-term : Measures 3 put-term-kinds.ps ℕ
-μ-put-term κs a = a .1 .1 .1 .1 .0
+μ-put-term κs a = a .1 .1 .1 .0 .room
 
 abbrev put-term-at : ℕ → In 3 put-term-kinds.ps
 put-term-at t = and 3 put-term-kinds.ps (is 3 put-term-kinds.ps μ-put-term t) put-term.Pre
@@ -60,7 +60,7 @@ claims-put-term t = (
 
 put-term-returns : (t : ℕ) → put-term-lts.Need-returns (claims-put-term t) (put-term-at t) put-term.Post
 put-term-returns t c =
-    let at-entry = c .before .before .before in
+    let at-entry = c .before .before .before .before in
     wrote-as (wrote-none _ _ (at-entry .pre .1 .1)) (term-none _ _ _ _ _ (c .if1 .taken))
 
 put-term-byte-from-requires : (t : ℕ) → put-term-lts.Need-byte-from-requires (claims-put-term t) (put-term-at t) put-term.Post
@@ -78,7 +78,7 @@ put-term-returns-2 t c =
     let at-if2 = at-put-leaf .before .before in
     let at-byte-from = at-if2 .before in
     let at-if1 = at-byte-from .before in
-    let at-entry = at-if1 .before .before .before in
+    let at-entry = at-if1 .before .before .before .before in
     wrote-as (at-put-leaf .write-leaf .ensures) (term-leaf _ _ _ _ _ (at-if1 .if1 .left) (at-byte-from .byte-from .ensures) (at-if2 .if2 .taken))
 
 put-term-byte-from-requires-2 : (t : ℕ) → put-term-lts.Need-byte-from-requires-2 (claims-put-term t) (put-term-at t) put-term.Post
@@ -90,18 +90,18 @@ put-term-onward-requires t c κs = search needs
 put-term-put-head-requires : (t : ℕ) → put-term-lts.Need-put-head-requires (claims-put-term t) (put-term-at t) put-term.Post
 put-term-put-head-requires t c κs = search needs
 
-put-term-sub-put-term : (t : ℕ) → put-term-lts.Need-sub-put-term (claims-put-term t) (put-term-at t) put-term.Post
-put-term-sub-put-term t c = search needs
+put-term-sub-room : (t : ℕ) → put-term-lts.Need-sub-t26 (claims-put-term t) (put-term-at t) put-term.Post
+put-term-sub-room t c = search needs
 
 put-term-first-level-requires : (t : ℕ) → put-term-lts.Need-first-level-requires (claims-put-term t) (put-term-at t) put-term.Post
 put-term-first-level-requires t c κs = search needs
 
 put-term-put-term-requires : (t : ℕ) → put-term-lts.Need-put-term-requires (claims-put-term t) (put-term-at t) put-term.Post
 put-term-put-term-requires t c κs =
-    let at-put-head = c .before .before .before .before in
+    let at-put-head = c .before .before .before .before .before in
     let at-onward = at-put-head .before .before in
     let at-if1 = at-onward .before .before .before .before in
-    let at-entry = at-if1 .before .before .before in
+    let at-entry = at-if1 .before .before .before .before in
     (omega (arith, at-entry .pre .0, at-if1 .if1 .left), ((at-entry .pre .1 .0 .0, at-onward .onward .ensures .1, at-entry .pre .1 .0 .2), at-put-head .put-head .ensures .stops))
 
 put-term-same-length-2 : (t : ℕ) → put-term-lts.Need-same-length-2 (claims-put-term t) (put-term-at t) put-term.Post
@@ -111,13 +111,13 @@ put-term-returns-3 : (t : ℕ) → put-term-lts.Need-returns-3 (claims-put-term 
 put-term-returns-3 t c =
     let at-put-term = c .before .before .before in
     let at-first-level = at-put-term .before .before in
-    let at-put-head = at-first-level .before .before .before in
+    let at-put-head = at-first-level .before .before .before .before in
     let at-onward = at-put-head .before .before in
     let at-byte-from2 = at-onward .before in
     let at-if2 = at-byte-from2 .before in
     let at-byte-from = at-if2 .before in
     let at-if1 = at-byte-from .before in
-    let at-entry = at-if1 .before .before .before in
+    let at-entry = at-if1 .before .before .before .before in
     wrote-as (wrote-on (at-put-head .put-head .ensures) (at-put-term .put-term .ensures))
     (one-argument _ _ _ _ _ _ (at-if1 .if1 .left) (at-byte-from .byte-from .ensures) (at-if2 .if2 .left) (at-byte-from2 .byte-from2 .ensures)
     (at-onward .onward .ensures .0) (at-first-level .first-level .ensures) (c .if3 .taken))
@@ -128,21 +128,27 @@ put-term-after-field-requires t c κs = search needs
 put-term-put-between-requires : (t : ℕ) → put-term-lts.Need-put-between-requires (claims-put-term t) (put-term-at t) put-term.Post
 put-term-put-between-requires t c κs = search needs
 
-put-term-sub-put-term-2 : (t : ℕ) → put-term-lts.Need-sub-put-term-2 (claims-put-term t) (put-term-at t) put-term.Post
-put-term-sub-put-term-2 t c = search needs
+put-term-sub-room-2 : (t : ℕ) → put-term-lts.Need-sub-t26-2 (claims-put-term t) (put-term-at t) put-term.Post
+put-term-sub-room-2 t c =
+    let at-if3 = c .before .before .before .before .before .before in
+    let at-put-head = at-if3 .before .before .before .before .before .before .before .before .before in
+    let at-put-head-arg = at-put-head .before in
+    let at-if1 = at-put-head-arg .before .before .before .before .before in
+    omega (arith, at-if1 .if1 .left)
 
 put-term-second-level-requires : (t : ℕ) → put-term-lts.Need-second-level-requires (claims-put-term t) (put-term-at t) put-term.Post
 put-term-second-level-requires t c κs = search needs
 
 put-term-put-term-requires-2 : (t : ℕ) → put-term-lts.Need-put-term-requires-2 (claims-put-term t) (put-term-at t) put-term.Post
 put-term-put-term-requires-2 t c κs =
-    let at-put-between = c .before .before .before .before in
+    let at-put-between = c .before .before .before .before .before in
     let at-after-field = at-put-between .before .before in
     let at-if3 = at-after-field .before in
-    let at-put-head-arg = at-if3 .before .before .before .before .before .before .before .before .before in
+    let at-put-head = at-if3 .before .before .before .before .before .before .before .before .before in
+    let at-put-head-arg = at-put-head .before in
     let at-onward = at-put-head-arg .before in
     let at-if1 = at-onward .before .before .before .before in
-    let at-entry = at-if1 .before .before .before in
+    let at-entry = at-if1 .before .before .before .before in
     (omega (arith, at-entry .pre .0, at-if1 .if1 .left), ((at-entry .pre .1 .0 .0, at-after-field .after-field .ensures .1, at-entry .pre .1 .0 .2), at-put-between .put-between .ensures .stops))
 
 put-term-put-unless-requires : (t : ℕ) → put-term-lts.Need-put-unless-requires (claims-put-term t) (put-term-at t) put-term.Post
@@ -154,18 +160,18 @@ put-term-returns-4 t c =
     let at-if4 = at-put-unless .before .before in
     let at-put-term2 = at-if4 .before .before .before in
     let at-second-level = at-put-term2 .before .before in
-    let at-put-between = at-second-level .before .before .before in
+    let at-put-between = at-second-level .before .before .before .before in
     let at-after-field = at-put-between .before .before in
     let at-if3 = at-after-field .before in
     let at-put-term = at-if3 .before .before .before in
     let at-first-level = at-put-term .before .before in
-    let at-put-head = at-first-level .before .before .before in
+    let at-put-head = at-first-level .before .before .before .before in
     let at-onward = at-put-head .before .before in
     let at-byte-from2 = at-onward .before in
     let at-if2 = at-byte-from2 .before in
     let at-byte-from = at-if2 .before in
     let at-if1 = at-byte-from .before in
-    let at-entry = at-if1 .before .before .before in
+    let at-entry = at-if1 .before .before .before .before in
     wrote-as
     (wrote-on (at-put-head .put-head .ensures) (wrote-on (at-put-term .put-term .ensures) (wrote-on (at-put-between .put-between .ensures)
     (wrote-on (at-put-term2 .put-term2 .ensures) (at-put-unless .put-unless .ensures)))))
@@ -182,24 +188,28 @@ put-term-after-field-requires-2 t c κs = search needs
 put-term-put-sign-requires : (t : ℕ) → put-term-lts.Need-write-sign-requires (claims-put-term t) (put-term-at t) put-term.Post
 put-term-put-sign-requires t c κs = search needs
 
-put-term-sub-put-term-3 : (t : ℕ) → put-term-lts.Need-sub-put-term-3 (claims-put-term t) (put-term-at t) put-term.Post
-put-term-sub-put-term-3 t c =
-    let at-if4 = c .before .before .before .before .before in
-    let at-put-between-arg = at-if4 .before .before .before .before .before .before .before .before .before in
+put-term-sub-room-3 : (t : ℕ) → put-term-lts.Need-sub-t26-3 (claims-put-term t) (put-term-at t) put-term.Post
+put-term-sub-room-3 t c =
+    let at-if4 = c .before .before .before .before .before .before in
+    let at-put-between = at-if4 .before .before .before .before .before .before .before .before .before in
+    let at-put-between-arg = at-put-between .before in
     let at-if3 = at-put-between-arg .before .before in
-    let at-put-head-arg = at-if3 .before .before .before .before .before .before .before .before .before in
+    let at-put-head = at-if3 .before .before .before .before .before .before .before .before .before in
+    let at-put-head-arg = at-put-head .before in
     let at-if1 = at-put-head-arg .before .before .before .before .before in
     omega (arith, at-if1 .if1 .left)
 
 put-term-put-term-requires-3 : (t : ℕ) → put-term-lts.Need-put-term-requires-3 (claims-put-term t) (put-term-at t) put-term.Post
 put-term-put-term-requires-3 t c κs =
-    let at-put-sign = c .before .before .before in
+    let at-put-sign = c .before .before .before .before in
     let at-after-field2 = at-put-sign .before .before in
-    let at-put-between = at-after-field2 .before .before .before .before .before .before .before .before .before in
+    let at-if4 = at-after-field2 .before in
+    let at-put-between = at-if4 .before .before .before .before .before .before .before .before .before in
     let at-if3 = at-put-between .before .before .before in
-    let at-put-head-arg = at-if3 .before .before .before .before .before .before .before .before .before in
+    let at-put-head = at-if3 .before .before .before .before .before .before .before .before .before in
+    let at-put-head-arg = at-put-head .before in
     let at-if1 = at-put-head-arg .before .before .before .before .before in
-    let at-entry = at-if1 .before .before .before in
+    let at-entry = at-if1 .before .before .before .before in
     (omega (arith, at-entry .pre .0, at-if1 .if1 .left), ((at-entry .pre .1 .0 .0, at-after-field2 .after-field2 .ensures .1, at-entry .pre .1 .0 .2), at-put-sign .write-sign .ensures .stops))
 
 put-term-put-sign-requires-2 : (t : ℕ) → put-term-lts.Need-write-sign-requires-2 (claims-put-term t) (put-term-at t) put-term.Post
@@ -209,23 +219,23 @@ put-term-returns-5 : (t : ℕ) → put-term-lts.Need-returns-5 (claims-put-term 
 put-term-returns-5 t c =
     let at-put-sign2 = c .before .before in
     let at-put-term3 = at-put-sign2 .before .before .before .before in
-    let at-put-sign = at-put-term3 .before .before .before .before in
+    let at-put-sign = at-put-term3 .before .before .before .before .before in
     let at-after-field2 = at-put-sign .before .before in
     let at-if4 = at-after-field2 .before in
     let at-put-term2 = at-if4 .before .before .before in
     let at-second-level = at-put-term2 .before .before in
-    let at-put-between = at-second-level .before .before .before in
+    let at-put-between = at-second-level .before .before .before .before in
     let at-after-field = at-put-between .before .before in
     let at-if3 = at-after-field .before in
     let at-put-term = at-if3 .before .before .before in
     let at-first-level = at-put-term .before .before in
-    let at-put-head = at-first-level .before .before .before in
+    let at-put-head = at-first-level .before .before .before .before in
     let at-onward = at-put-head .before .before in
     let at-byte-from2 = at-onward .before in
     let at-if2 = at-byte-from2 .before in
     let at-byte-from = at-if2 .before in
     let at-if1 = at-byte-from .before in
-    let at-entry = at-if1 .before .before .before in
+    let at-entry = at-if1 .before .before .before .before in
     wrote-as
     (wrote-on (at-put-head .put-head .ensures) (wrote-on (at-put-term .put-term .ensures) (wrote-on (at-put-between .put-between .ensures)
     (wrote-on (at-put-term2 .put-term2 .ensures) (wrote-on (at-put-sign .write-sign .ensures)
@@ -249,14 +259,14 @@ pub +put-term-spec : {M : Type 1} → statement M
     (put-term-byte-from-requires-2 t)
     (put-term-onward-requires t)
     (put-term-put-head-requires t)
-    (put-term-sub-put-term t)
+    (put-term-sub-room t)
     (put-term-first-level-requires t)
     (put-term-put-term-requires t)
     (put-term-same-length-2 t)
     (put-term-returns-3 t)
     (put-term-after-field-requires t)
     (put-term-put-between-requires t)
-    (put-term-sub-put-term-2 t)
+    (put-term-sub-room-2 t)
     (put-term-second-level-requires t)
     (put-term-put-term-requires-2 t)
     (put-term-put-unless-requires t)
@@ -264,7 +274,7 @@ pub +put-term-spec : {M : Type 1} → statement M
     (put-term-returns-4 t)
     (put-term-after-field-requires-2 t)
     (put-term-put-sign-requires t)
-    (put-term-sub-put-term-3 t)
+    (put-term-sub-room-3 t)
     (put-term-put-term-requires-3 t)
     (put-term-put-sign-requires-2 t)
     (put-term-same-length-4 t)
