@@ -2,6 +2,7 @@
 -- 256 times 1 the first writes it, 2 the second writes it, 4 the first reads it, 8 the second reads it, 16 both only
 -- add to it, 32 they meet there.
 use Prim.Native.Nat.{ℕ}
+use mathlib.Core.Bool.{true, false}
 use mathlib.Core.Path.{_≡_, refl}
 use mathlib.Core.List.{[], _∷_}
 use Rattle.spec_language.specs.Syntax.{con, name, app2, app3, immediate, later, handler, active, Program}
@@ -16,6 +17,7 @@ use Rattle.ask_agree.specs.Agree.{clashes}
 use Rattle.ask_meets.specs.Marks.{nameMark, twoMark, ifMark, markOf, addsOf}
 use Rattle.ask_meets.specs.Meeting.{refersAt, strictAt, strictIn, meeting, meets}
 use Rattle.ask_pair.specs.Pair.{leastTold, flagsAt, packedPair, pairBy, pairOf, pairIn}
+use Rattle.ask_pair.specs.Claims.{packedTold}
 
 -- 01's sheet S: event 0 has b0 + b1 for b0, and b0 - b1 for b1 later; event 1 has 1 for b1
 abbrev S : Program
@@ -37,6 +39,11 @@ S-0-and-1 = refl
 S-1-and-0 : pairIn S 1 0 ≡ 4294978305
 unfolding handled mentions upTo anyBelow matrixOf closed closeBy closeRows closeThrough closeRow closeCell firstFrom namedDirectly throughPassives namedBy clashes nameMark twoMark markOf addsOf refersAt strictAt strictIn meeting meets leastTold flagsAt packedPair pairBy pairOf pairIn
 S-1-and-0 = refl
+
+-- the same number as the claim packs it
+S-as-claimed : packedTold 1 true true true false false true ≡ 4294977281
+unfolding packedTold
+S-as-claimed = refl
 
 -- event 2 is not declared
 S-0-and-2 : pairIn S 0 2 ≡ 15

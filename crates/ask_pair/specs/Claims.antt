@@ -31,9 +31,12 @@ abbrev pub FlagOf : Bool → Type 0 → Type 0
 FlagOf t P = (t ≡ true → P) × (P → t ≡ true)
 
 -- 2 ^ 32, the behaviour, and 256 times the flags: 1, 2, 4, 8, 16 and 32
+abbrev pub flagsUnit : ℕ
+flagsUnit = 256
+
 unfoldable pub packedTold : ℕ → Bool → Bool → Bool → Bool → Bool → Bool → ℕ
 packedTold i we wf re rf add meet =
-    told (i + 256 * (pick we 1 0 + (pick wf 2 0 + (pick re 4 0 + (pick rf 8 0 + (pick add 16 0 + pick meet 32 0))))))
+    told (i + flagsUnit * (pick we 1 0 + (pick wf 2 0 + (pick re 4 0 + (pick rf 8 0 + (pick add 16 0 + pick meet 32 0))))))
 
 -- the answer names a behaviour that the events e and f share, and each flag is true of it
 pub record PairNamed (p : Program) (e f answer : ℕ) : Type 0 where
