@@ -1,11 +1,11 @@
 -- Formulas and what they stand for, each by computing: precedence, grouping, spaces, leading zeros, texts outside the
 -- grammar, and the order of refusals.
-use Prim.Native.Nat.{_+_}
+use Prim.Native.Nat.{ℕ, _+_, _≤_}
 use mathlib.Core.Path.{_≡_, refl}
 use native.Mathlib.Omega.{arith}
-use mathlib.Core.List.{[], _∷_, _++_}
+use mathlib.Core.List.{List, [], _∷_, _++_}
 use mathlib.Core.Option.{none, some}
-use lib.ListN.{replicate}
+use lib.ListN.{length, replicate}
 use Rattle.lib_signature.specs.Signature.{level}
 use Rattle.spec_language.specs.Sheet.{asSent}
 use Rattle.spec_language.specs.Syntax.{con, name, app1, app2, app3}
@@ -15,6 +15,7 @@ use Rattle.text_formula.specs.Grammar.{Operator, operator}
 use Rattle.text_formula.specs.Reader.{digitOf, nameOf, singleOf, doubleOf, markedOf, wordToken, numberToken, firstOf, tokensOf, operatorChain, tower, bracketedOf, choiceOf, operandAt, readFormula}
 use Rattle.text_formula.specs.Answer.{large, nesting, answered, fieldAnswer}
 use Rattle.text_formula.specs.Formula.{formulaOn}
+use Rattle.text_formula.specs.Statements.{FieldWritten}
 
 -- 1+2*3 and (1+2)*3
 pub products-first : (readFormula (49 ∷ 43 ∷ 50 ∷ 42 ∷ 51 ∷ []) ≡ some (app2 4 (con 1) (app2 6 (con 2) (con 3))))
@@ -119,3 +120,7 @@ connectives = (operator refl, operator refl)
 -- the digits' bytes are 48 to 57
 pub digits : Digit 48 × Digit 57 × (Digit 47 → ⊥) × (Digit 58 → ⊥)
 digits = ((omega arith, omega arith), (omega arith, omega arith), (λ d. omega (arith, d .0)), (λ d. omega (arith, d .1)))
+
+-- a field that is written to a buffer of seven bytes has no more
+pub within-seven : (text buffer after : List ℕ) (n : ℕ) → FieldWritten text buffer n after → length buffer ≡ 7 → n ≤ 7
+within-seven text buffer after n w h = omega (arith, w .fits)
