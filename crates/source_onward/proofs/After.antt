@@ -1,17 +1,21 @@
 -- What follows an operand: each answer is the turn that `afterOperand` takes on the sign there.
-use Prim.Native.Nat.{ℕ, zero, suc, _-_, _≤_, _<_}
+use Prim.Native.Nat.{ℕ, zero, suc, _+_, _-_, _≤_, _<_}
 use mathlib.Core.Bool.{Bool, true, false, _&&_, true≢false}
 use mathlib.Core.Path.{_≡_, refl, sym, ap, _∙_}
-use mathlib.Core.List.{List, _∷_}
+use mathlib.Core.List.{List, [], _∷_}
 use native.Mathlib.Omega.{arith}
-use lib.ListN.{length, getD, List·getD-eq-default}
+use native.Mathlib.Numerals.{add-one}
+use lib.ListN.{length, getD, drop, List·getD-eq-default}
+use lib.Seq.{getD-drop}
 use lib.Dec.{ltb, leb, eqb}
 use borrow.Author.Tests.{ltb-true, ltb-false, leb-true, eqb-true, eqb-false, lt-ltb, le-ltb, lt-leb, ne-eqb}
 use Rattle.lib_base.specs.Basics.{pick}
 use Rattle.lib_base.proofs.Tools.{by-test, past, split}
+use Rattle.lib_signature.specs.Numbers.{notFn}
 use Rattle.lib_signature.specs.Signature.{level}
 use Rattle.lib_signature.proofs.Laws.{level-two}
-use Rattle.source_language.specs.Tokens.{SheetToken, sign, closing, endSign, isDigit, isLetter, inWord}
+use Rattle.source_language.specs.Tokens.{SheetToken, sign, marks, same, signOf, closing, endSign, isDigit, isLetter, inWord}
+use Rattle.source_language.specs.Scanner.{begins, firstInText}
 use Rattle.source_language.specs.Text.{Phrase, operation}
 use Rattle.source_language.specs.Faults.{outside, tooDeep}
 use Rattle.source_language.specs.Limits.{phraseNesting}
@@ -20,7 +24,7 @@ use Rattle.source_coding.specs.FaultWords.{faultWord}
 use Rattle.source_coding.specs.Places.{tokensFrom}
 use Rattle.source_tokens.specs.Token.{TokenBegins, PassedOver}
 use Rattle.source_tokens.proofs.Begun.{tokens-some}
-use Rattle.source_tokens.proofs.Scanned.{tokens-end}
+use Rattle.source_tokens.proofs.Scanned.{tokens-end, tokens-begin}
 use Rattle.source_tokens.proofs.Opened.{not-by-byte, if-by-byte}
 use Rattle.source_tokens.proofs.Words.{NoOperator, word-no-operator}
 use Rattle.source_due.specs.Due.{SignTold}
@@ -127,6 +131,11 @@ module _ (text : List ℕ) (at p : ℕ) (o : PassedOver text at p) where
 
 -- ---- the sign that an operand begins by
 
+not-mark : (p : ℕ) (bs : List ℕ) → (getD bs 0 0 ≡ 61 → ⊥) → firstInText p 33 bs ≡ begins (sign p notFn) bs
+unfolding firstInText isDigit isLetter signOf marks same
+not-mark p [] h = refl
+not-mark p (c ∷ rest) h = rw (ne-eqb c 61 h) refl
+
 module _ (text : List ℕ) (at : ℕ) where
   pub before-other : PassedOver text at at → (getD text at 0 ≡ 33 → ⊥) → (getD text at 0 ≡ 105 → ⊥) → SignBefore text at at 0 at
   before-other o h g =
@@ -138,13 +147,31 @@ module _ (text : List ℕ) (at : ℕ) where
         further = λ x y. absurd (omega arith);
       }
 
-  -- `!` stands at a place where a token begins, and is in no word
-  pub not-byte : PassedOver text at at → getD text at 0 ≡ 33 → TokenBegins text at × (inWord (getD text at 0) ≡ false)
+  -- `!` stands where a token begins, and in no word; where no `=` follows, it is the sign
+  pub not-begun : PassedOver text at at → getD text at 0 ≡ 33 → TokenBegins text at
+  not-begun o e =
+      o .begun (split (ltb at (length text)) (λ t. ltb-true at (length text) t)
+      (λ f. let d = List·getD-eq-default text 0 (ltb-false at (length text) f) in absurd (omega arith)))
+
+  pub not-in-word : getD text at 0 ≡ 33 → inWord (getD text at 0) ≡ false
   unfolding inWord isDigit isLetter
-  not-byte o e =
-      let l : at < length text = split (ltb at (length text)) (λ t. ltb-true at (length text) t)
-      (λ f. let d = List·getD-eq-default text 0 (ltb-false at (length text) f) in absurd (omega arith)) in
-      (o .begun l, rw e refl)
+  not-in-word e = rw e refl
+
+  not-alone : TokenBegins text at → getD text at 0 ≡ 33 → (getD text (at + 1) 0 ≡ 61 → ⊥) → tokensFrom text at ≡ sign at notFn ∷ tokensFrom text (at + 1)
+  not-alone b e h =
+      let q : getD (drop (suc at) text) 0 0 ≡ getD text (at + 1) 0 = getD-drop (suc at) text 0 0 ∙ ap (λ (n : ℕ). getD text n 0) (omega arith) in
+      tokens-begin text at b (sign at notFn) (at + 1) (rw (e, add-one at) (not-mark at (drop (suc at) text) (λ z. h (sym q ∙ z))))
+
+  pub before-not : TokenBegins text at → getD text at 0 ≡ 33 → (getD text (at + 1) 0 ≡ 61 → ⊥) → SignBefore text at at notFn (at + 1)
+  before-not b e h =
+      let q = not-alone b e h in
+      record {
+        not-is = λ z. refl;
+        if-is = λ z. absurd (omega (arith, z, ap signAt q));
+        within = omega (arith, b .inside);
+        onward = λ x y. q;
+        further = λ x y. (omega arith, omega (arith, b .inside));
+      }
 
   pub before-sign : (p c next : ℕ) → SignStands text at p c next → SignBefore text at p c next
   before-sign p c next s =

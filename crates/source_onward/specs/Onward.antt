@@ -5,7 +5,7 @@ use mathlib.Core.Bool.{Bool, false}
 use mathlib.Core.Path.{_≡_}
 use mathlib.Core.Logic.{_≢_}
 use mathlib.Core.List.{List, _∷_}
-use lib.ListN.{length}
+use lib.ListN.{length, getD}
 use lib.Dec.{ltb, leb, eqb}
 use Rattle.lib_base.specs.Basics.{pick}
 use Rattle.lib_signature.specs.Signature.{level}
@@ -17,7 +17,7 @@ use Rattle.source_language.specs.Limits.{phraseNesting}
 use Rattle.source_language.specs.Reader.{Phrased, got, thenPhrase, placeAt, signAt, pastSign, afterOperand, fromOperand}
 use Rattle.source_coding.specs.FaultWords.{faultWord}
 use Rattle.source_coding.specs.Places.{tokensFrom}
-use Rattle.source_tokens.specs.Token.{PassedOver}
+use Rattle.source_tokens.specs.Token.{TokenBegins, PassedOver}
 use Rattle.source_tokens.specs.declared.Token.{Token}
 use Rattle.source_tokens.specs.declared.Token.the-variants.{Number, Name, Sign}
 use Rattle.source_due.specs.Due.{FaultTold}
@@ -33,6 +33,10 @@ abbrev pub StandsFor : Token → ℕ → ℕ → ℕ → Type 0
 StandsFor (Number p v next) q c to = (q ≡ p) × (c ≡ 0) × (to ≡ next)
 StandsFor (Name p next) q c to = (q ≡ p) × (c ≡ 0) × (to ≡ next)
 StandsFor (Sign p d next) q c to = (q ≡ p) × (c ≡ d) × (to ≡ next)
+
+-- a token that begins with `!`
+abbrev pub NotBegins : List ℕ → ℕ → Type 0
+NotBegins text at = TokenBegins text at × (getD text at 0 ≡ 33)
 
 -- the sign at a place as far as an operand begins by it, with `!` or `if`: 0 stands for any other
 pub record SignBefore (text : List ℕ) (at p c next : ℕ) : Type 0 where

@@ -1,4 +1,5 @@
 // How a formula of a sheet's text goes on: the brackets before its first operand, and what follows an operand.
+use lib_signature::functions;
 use lib_signature::levels;
 use source_coding::faults;
 use source_coding::signs;
@@ -18,7 +19,8 @@ ghost use Prim.Native.Nat.{_≤_, _<_};
 ghost use lib.ListN.{length};
 ghost use Rattle.source_coding.specs.Places.{tokensFrom};
 ghost use Rattle.source_tokens.specs.Token.{PassedOver};
-ghost use Rattle.source_onward.specs.Onward.{StandsFor, SignBefore, SignAhead, BracketsOpened, joinsIn, onwardOf, OnwardRead, ReadInside, EndedRead};
+ghost use Rattle.source_onward.specs.Onward.{StandsFor, NotBegins, SignBefore, SignAhead, BracketsOpened};
+ghost use Rattle.source_onward.specs.Onward.{joinsIn, onwardOf, OnwardRead, ReadInside, EndedRead};
 ghost use Rattle.lib_signature.specs.Levels.{disjunction};
 ghost use Rattle.source_coding.specs.Bounds.{textBytes};
 
@@ -67,6 +69,22 @@ fn standing_of(token: Token) -> Standing
     }
 }
 
+// The sign of a token that begins with `!`.
+fn not_before(text: &[u8], at: usize) -> Standing
+    requires { ⌜ length (now text) ≤ textBytes ⌝ }
+    requires { ⌜ NotBegins (now text) at ⌝ }
+    ensures { λ r. ⌜ SignBefore (now (text .entry)) at (r .place) (r .sign) (r .next) ⌝ }
+{
+    if byte_at(text, at + 1) != b'=' {
+        return Standing {
+            place: at,
+            sign: functions::NOT,
+            next: at + 1,
+        };
+    }
+    standing_of(mark_at(text, at))
+}
+
 // The sign at a token's place, as far as an operand begins by it: `!` and `if` do, and of a token with another first
 // byte no more is read.
 pub fn sign_before(text: &[u8], at: usize) -> Standing
@@ -76,7 +94,7 @@ pub fn sign_before(text: &[u8], at: usize) -> Standing
 {
     let b = byte_at(text, at);
     if b == b'!' {
-        return standing_of(mark_at(text, at));
+        return not_before(text, at);
     }
     if b != b'i' {
         return Standing {
