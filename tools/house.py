@@ -360,16 +360,12 @@ MOST_CLAUSES = 6
 CONTRACT_WIDTH = 160
 # functions that have more parameters still
 WITH_MORE = {"behaviour_at", "behaviours_at"}
-# crates whose contracts have more clauses or columns still
-CRATES_WITH_MORE = {"source_index"}
 # its parameters, and its contract as far as the body
 FUNCTION = re.compile(r'^(?:pub )?(?:extern "C" )?fn (\w+)(?:<[^>(]*>)?\(([^()]*)\)(?: -> [^\n]*)?\n(.*?)^{', re.M | re.S)
 
 
 def large_contracts():
     for path in files_under("crates", ".rt"):
-        if path.split("/")[1] in CRATES_WITH_MORE:
-            continue
         text = text_of(path)
         for found in FUNCTION.finditer(text):
             name, parameters, contract = found.groups()

@@ -71,7 +71,8 @@ pub fn put_meanings(
     requires { ⌜ All (λ k. k ≤ behaviourLimit) (now firsts) ⌝ }
     requires { ⌜ length (now places) ≤ length (now meanings) ⌝ }
     requires { ⌜ All (λ m. m < meaningLimit) (now meanings) ⌝ }
-    ensures { λ _. ⌜ MeaningsPut (now (text .entry)) (now (names .entry)) params (now (firsts .entry)) (now (places .entry)) (length (now (places .entry))) (now (meanings .entry)) (now (meanings .exit)) ⌝ }
+    ensures { λ _. ⌜ MeaningsPut (now (text .entry)) (now (names .entry)) params (now (firsts .entry))
+        (now (places .entry)) (length (now (places .entry))) (now (meanings .entry)) (now (meanings .exit)) ⌝ }
 {
     let mut k = 0;
     while k < places.len() {
