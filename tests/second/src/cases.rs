@@ -486,6 +486,32 @@ fn operands(bytes: usize, names: &[String], operand: Option<&str>, nots: usize) 
     })
 }
 
+/// The leaf in chains of `*` within chains of `+`, of `<` and of `==`, so many more in each: no bracket, and next to no
+/// operator of two bytes, so that a text is hardly anything but operands.
+fn chained(leaf: &str, more: [usize; 4]) -> String {
+    ["*", "+", "<", "=="]
+        .iter()
+        .zip(more)
+        .fold(leaf.to_string(), |text, (operator, n)| vec![text; n + 1].join(operator))
+}
+
+/// The chains of at most 15 more operands in all, which nesting 16 allows, that take most of the room.
+fn longest_chain(leaf: &str, room: usize) -> String {
+    let each = || 0..8usize;
+    let all =
+        each().flat_map(|a| each().flat_map(move |b| each().flat_map(move |c| each().map(move |d| [a, b, c, d]))));
+    let leaves = |more: &[usize; 4]| more.iter().map(|n| n + 1).product::<usize>();
+    let fits = |more: &[usize; 4]| leaves(more) * (leaf.len() + 1) <= room + 8 && chained(leaf, *more).len() <= room;
+    let deep = |more: &[usize; 4]| more.iter().sum::<usize>() < 16;
+    chained(leaf, all.filter(deep).filter(fits).max_by_key(leaves).unwrap())
+}
+
+/// Formulas of this operand in such chains.
+fn chains(bytes: usize, names: &[String], operand: &str) -> Vec<u8> {
+    let mut known = None;
+    text_of_operands(bytes, names, &mut |_, room| known.get_or_insert_with(|| longest_chain(operand, room)).clone())
+}
+
 /// Formulas that name the last of 72 names, which are alike, behind so many `!`.
 pub fn named_operands(bytes: usize, nots: usize) -> Vec<u8> {
     operands(bytes, &alike(PARAMS + FULL_BEHAVIOURS), None, nots)
@@ -519,6 +545,9 @@ pub fn hard_texts() -> Vec<Case> {
         case("72 names alike, the last one again and again, refused by 40", named_operands(FULL_TEXT, 0)),
         case("72 short names, the last one again and again, refused by 40", operands(FULL_TEXT, &short, None, 0)),
         case("72 names alike, another one again and again, refused by 38", operands(FULL_TEXT, &like, Some("axy"), 0)),
+        case("72 short names, one of them in chains without brackets, refused by 40", chains(FULL_TEXT, &short, "b")),
+        case("72 names alike, a short one in such chains, refused by 38", chains(FULL_TEXT, &like, "k")),
+        case("ones in such chains, refused by 40", chains(FULL_TEXT, &like, "1")),
         case("ones behind six !, refused by 40", operands(FULL_TEXT, &like, Some("1"), 6)),
         case("ones again and again, refused by 40", operands(FULL_TEXT, &like, Some("1"), 0)),
         case("sixteen formulas end before blanks, 64 times", trailing(FULL_TEXT, &[" "])),
