@@ -240,12 +240,12 @@ def section(page, title):
 def edits_due_at_the_gate():
     """The gate tries two edits for each exported call, and each engine that the buyer sends back, as the claims list them."""
     page, tried = "docs/CLAIMS.md", {cited for cited, paths in edits().items() if paths[0].startswith("crates/")}
-    calls = section(page, "Two wrong programs for each exported call")
+    calls = section("docs/REVIEW.md", "Two wrong programs for each exported call")
     of_call = {call: re.findall(r"`(\w+/\w+)`", rest) for call, rest in re.findall(r"^- `(\w+)`: (.*(?:\n  .*)*)", calls, re.M)}
     for call in re.findall(r'^pub extern "C" fn (\w+)', text_of("crates/engine/src/lib.rt"), re.M):
         count = len(tried.intersection(of_call.get(call, [])))
         if count < 2:
-            yield f"{page}: the gate tries {count} edits of {call} that are listed there, and two are due"
+            yield f"docs/REVIEW.md: the gate tries {count} edits of {call} that are listed there, and two are due"
     for engine, rest in re.findall(r"^- (.*)\n((?:  .*\n)+)", section(page, "The seven engines that the buyer sends back"), re.M):
         if not tried.intersection(re.findall(r"`(\w+/\w+)`", rest)):
             yield f"{page}: the gate tries no edit of the engine that is sent back: {engine}"
@@ -603,7 +603,7 @@ PLANTED = [
     ("`in:` names wide", "crates/lib_word/must-fail/planted.edit", "file: src/lib.rt\nin: wide\n" + PLANTED_PAIR),
     ("`in:` names none", "crates/lib_word/must-fail/planted.edit", "file: src/lib.rt\n" + PLANTED_PAIR),
     ("no edit of its code", "crates/lib_base/src/planted.rt", "fn planted() -> u32 {\n    0\n}\n"),
-    ("0 edits of circle", "docs/CLAIMS.md", ("- `circle`: ", "- `planted`: ")),
+    ("0 edits of circle", "docs/REVIEW.md", ("- `circle`: ", "- `planted`: ")),
     ("no edit of the engine that is sent back", "docs/CLAIMS.md", ("`run_arrive/number_made_up`\n", "`run_arrive/planted`\n")),
     ("a number without a name", "crates/lib_word/src/planted.rt", "fn planted() -> u32 {\n    17\n}\n"),
     ("in a contract: 17", "crates/lib_word/src/planted.rt", "fn planted() -> u32\n    ensures { λ r. ⌜ r < 17 ⌝ }\n{\n    0\n}\n"),
