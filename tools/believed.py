@@ -396,7 +396,9 @@ def import_of(names, kind="specs"):
 UNLISTED = f"{ELSEWHERE} must be believed"
 MODEL = "crates/spec_model/specs/Model.antt"
 RANK = "  priority e = getD (p .priorities) e 0\n"
-LONG = PLANTED_NAME + "".join(f"planted {n} = {n}\n" for n in range(12))
+# longer than all that may be believed, however few lines that is now
+TOO_MANY = range(MOST_OF_PAPERS)
+LONG = PLANTED_NAME + "".join(f"planted {n} = {n}\n" for n in TOO_MANY)
 PROOFS = "crates/lib_base/proofs/Planted.antt"
 RENAMED = [(ELSEWHERE, None, PLANTED_NAME), ("crates/lib_base/specs/Between.antt", None, "pub " + import_of(".{planted}"))]
 PLANTED = [
@@ -411,7 +413,7 @@ PLANTED = [
     ("planted stands in a believed file", [(MODEL, None, f"\n{PLANTED_NAME}")]),
     ("stepOn stands in a believed file", [(MODEL, None, "\nabbrev pub stepOn : ℕ → ℕ\nstepOn n = n\n")]),
     ("a believed file with a line of 161 columns", [(MODEL, None, "-- " + "o" * 158 + "\n")]),
-    ("documents 01 and 02", [(MODEL, RANK, RANK + "".join(f"  priority {n} = {n}\n" for n in range(12)))]),
+    ("documents 01 and 02", [(MODEL, RANK, RANK + "".join(f"  priority {n} = {n}\n" for n in TOO_MANY))]),
     ("the claim without deliveries", reached_by(import_of(".{planted}"), "planted 1", LONG)),
     ("lists spec_model/specs/Told.antt", [(REVIEW, PAGE_FILE, f"{PAGE_FILE}, `spec_model/specs/Told.antt`")]),
     ("does not reach it: same-board", [(CLAIMS, "  - part: `Claims.p-rounds`", "  - part: `Claims.p-rounds`, `same-board`")]),
