@@ -75,12 +75,24 @@ def respelled(name, kinds):
     return snake(name)
 
 
+def of_the_kit():
+    """What files import from the toolchain's libraries: such a name stays, also where a file declares one like it."""
+    found = set()
+    for path in antt():
+        for m in re.finditer(r"(?m)^(?:pub |unfoldable )*use ([^\s{]+)\.\{([^}]*)\}", read(path)):
+            if not m[1].startswith("Rattle.") or re.match(r"Rattle\.(std|bytes|io|core)\b", m[1]):
+                for name in m[2].split(","):
+                    found.update(name.strip().split(" as "))
+    return found
+
+
 def table():
     found = declared()
+    kit = of_the_kit()
     new = {}
     for name, kinds in found.items():
         plain = re.fullmatch(r"\+?[A-Za-z][A-Za-z0-9_'′μℕℤ₀-₉-]*", name)
-        if not plain or len(name) == 1 or name in ("row", "stands") or MADE.match(name) or name.endswith("-lts") or name.endswith("-reads"):
+        if not plain or len(name) == 1 or name in ("row", "stands") or name in kit or MADE.match(name) or name.endswith("-lts") or name.endswith("-reads"):
             continue
         to = respelled(name, kinds)
         if to != name:

@@ -1,6 +1,6 @@
 -- The first name of a hidden behaviour on the sets that the code gathers is that of the program: answer by answer.
 use Rattle.lib_base.proofs.Prelude.{ℕ, ◌≤◌, ◌<◌, ◌+◌, ◌-◌, ◌%◌, ◌/◌, ◌^◌, ◌≡◌, refl, ◌∙◌, sym, ap, true, false, Bool}
-use Rattle.lib_base.proofs.Prelude.{◌||◌, ◌&&◌, not, or_false, ◌≢◌, List, eqb, ne_eqb, eq-eqb, arith}
+use Rattle.lib_base.proofs.Prelude.{◌||◌, ◌&&◌, not, or-false, ◌≢◌, List, eqb, ne_eqb, eq-eqb, arith}
 use Rattle.lib_base.specs.Basics.{pick}
 use Rattle.lib_bits.specs.Bits.{bit, Gathers}
 use Rattle.lib_bits.proofs.BitLaws.{bit_none}
@@ -25,11 +25,11 @@ use Rattle.ask_leak.specs.Leak.{behaviour_names, hidden_in, leak_in, leak_on}
 -- ---- who may see
 
 pub host_sees : (set byte player j h : ℕ) → player ≡ 0 → bit set h ≡ bit set h || (not (may byte player) && eqb h j)
-host_sees set byte player j h q = rw (eq-eqb player 0 q) (sym (or_false (bit set h)))
+host_sees set byte player j h q = rw (eq-eqb player 0 q) (sym (or-false (bit set h)))
 
 pub seen_stays : (set byte player j h : ℕ) → (player ≡ 0 → ⊥) → bit byte player ≡ true → bit set h ≡ bit set h || (not (may byte player) && eqb h j)
 unfolding bit
-seen_stays set byte player j h n t = rw (ne_eqb player 0 n, t) (sym (or_false (eqb (set / 2 ^ h % 2) 1)))
+seen_stays set byte player j h n t = rw (ne_eqb player 0 n, t) (sym (or-false (eqb (set / 2 ^ h % 2) 1)))
 
 pub hidden_joins : (set next byte player j h : ℕ) → (player ≡ 0 → ⊥) → bit byte player ≡ false → bit next h ≡ bit set h || eqb h j → bit next h ≡ bit set h || (not (may byte player) && eqb h j)
 unfolding bit

@@ -1,6 +1,6 @@
 -- The code's branches on marks and sets, over plain variables.
 use Rattle.lib_base.proofs.Prelude.{ℕ, ◌≤◌, ◌<◌, suc, zero, ◌*◌, ◌%◌, ◌/◌, ◌^◌, ◌≡◌, refl, ◌∙◌, sym, ap, true, false}
-use Rattle.lib_base.proofs.Prelude.{Bool, ◌||◌, true≢false, ◌&&◌, not, or_false, or-true, and-false, and-true, ◌≢◌}
+use Rattle.lib_base.proofs.Prelude.{Bool, ◌||◌, true≢false, ◌&&◌, not, or-false, or-true, and-false, and-true, ◌≢◌}
 use Rattle.lib_base.proofs.Prelude.{List, length, get_or, List·getD-eq-default, eqb, ne_eqb, eqb-true, eq-eqb, eqb-false}
 use Rattle.lib_base.proofs.Prelude.{arith}
 use native.Mathlib.Nat.{mod-lt, zero-lt-suc}
@@ -78,7 +78,7 @@ eqb_turned i j =
 
 pub put_in : (set next i j : ℕ) (t : Bool) → t ≡ true → bit next j ≡ bit set j || eqb j i → bit next j ≡ pick (eqb i j) t (bit set j)
 put_in set next i j t h e =
-    e ∙ rw (eqb_turned i j, h) (by_test (λ x. bit set j || eqb i j ≡ x) (eqb i j) (λ u. rw (u, or-true (bit set j))) (λ u. rw (u, or_false (bit set j))))
+    e ∙ rw (eqb_turned i j, h) (by_test (λ x. bit set j || eqb i j ≡ x) (eqb i j) (λ u. rw (u, or-true (bit set j))) (λ u. rw (u, or-false (bit set j))))
 
 pub put_out : (set next i j : ℕ) (t : Bool) → t ≡ false → bit next j ≡ bit set j && not (eqb j i) → bit next j ≡ pick (eqb i j) t (bit set j)
 put_out set next i j t h e =

@@ -1,5 +1,5 @@
 -- What an event is strict about, from the sets and marks that the code has: bit by bit.
-use Rattle.lib_base.proofs.Prelude.{ℕ, ◌≤◌, ◌<◌, ◌≡◌, ◌∙◌, sym, ap, true, false, Bool, ◌||◌, ◌&&◌, not, or_false, List}
+use Rattle.lib_base.proofs.Prelude.{ℕ, ◌≤◌, ◌<◌, ◌≡◌, ◌∙◌, sym, ap, true, false, Bool, ◌||◌, ◌&&◌, not, or-false, List}
 use Rattle.lib_base.proofs.Prelude.{get_or, eqb, leb, lt-leb, le-leb, arith}
 use Rattle.lib_base.specs.Basics.{pick}
 use Rattle.lib_bits.specs.Bits.{bit, Gathers}
@@ -43,11 +43,11 @@ joins d rows n set cone i v names next q s k g u e w j b = rw (← q, s, le-leb 
 
 pub no_handler : (d rows : List ℕ) (n set cone i v : ℕ) {t : Bool} → t ≡ bit cone i → t ≡ true → entry_kind v < 2
     → (e : ℕ) → v ≡ entry_of d e i → Gathers 64 set (λ j. bit set j || ((bit cone i && leb 2 (entry_kind v)) && strict_at_on d rows n e i j))
-no_handler d rows n set cone i v q s k e w j b = rw (← q, s, lt-leb 2 (entry_kind v) k) (sym (or_false (bit set j)))
+no_handler d rows n set cone i v q s k e w j b = rw (← q, s, lt-leb 2 (entry_kind v) k) (sym (or-false (bit set j)))
 
 pub outside : (d rows : List ℕ) (n set cone i v : ℕ) {t : Bool} → t ≡ bit cone i → t ≡ false
     → (e : ℕ) → v ≡ entry_of d e i → Gathers 64 set (λ j. bit set j || ((bit cone i && leb 2 (entry_kind v)) && strict_at_on d rows n e i j))
-outside d rows n set cone i v q s e w j b = rw (← q, s) (sym (or_false (bit set j)))
+outside d rows n set cone i v q s e w j b = rw (← q, s) (sym (or-false (bit set j)))
 
 -- one handler more
 pub one_handler : (d rows : List ℕ) (n set cone e i v next : ℕ) → v ≡ entry_of d e i

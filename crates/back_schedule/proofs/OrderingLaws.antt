@@ -1,6 +1,6 @@
 -- The loops over who is met, the bytes of the order, and what the check finds. A mark is 0 or 1, so that the sum fits.
 use Rattle.lib_base.proofs.Prelude.{ℕ, ◌≤◌, ◌<◌, ◌+◌, ◌-◌, ◌≡◌, refl, ◌∙◌, sym, ap, subst, true, false, Bool, ◌||◌}
-use Rattle.lib_base.proofs.Prelude.{◌&&◌, not, or_false, and-false, and-true, ◌≢◌, by_cases, List, length}
+use Rattle.lib_base.proofs.Prelude.{◌&&◌, not, or-false, and-false, and-true, ◌≢◌, by_cases, List, length}
 use Rattle.lib_base.proofs.Prelude.{length-take-le, eqb, dec_lt, ne_eqb, le-ltb, lt-ltb, eq-eqb, arith}
 use Rattle.lib_base.specs.Basics.{pick}
 use Rattle.lib_base.proofs.Tools.{by_test}
@@ -24,7 +24,7 @@ use Rattle.back_schedule.specs.Ordering.{met_mark, MetAre, order_under, OrderHol
 
 module _ (set i v j : ℕ) where
   pub met_none : met_mark v ≡ 0 → bit set j ≡ bit set j || (not (eqb (met_mark v) 0) && eqb j i)
-  met_none h = rw (eq-eqb (met_mark v) 0 h) (sym (or_false (bit set j)))
+  met_none h = rw (eq-eqb (met_mark v) 0 h) (sym (or-false (bit set j)))
 
   pub met_one : met_mark v ≢ 0 → bit set j || eqb j i ≡ bit set j || (not (eqb (met_mark v) 0) && eqb j i)
   met_one h = rw (ne_eqb (met_mark v) 0 h)
@@ -41,9 +41,9 @@ pub marking_turn : {d : List ℕ} {e n set set' i v : ℕ} → Marking d e n set
     → ((j : ℕ) → bit set' j ≡ bit set j || (not (eqb (met_mark v) 0) && eqb j i)) → Marking d e n set' (i + 1)
 marking_turn {d} {e} {n} {set} {set'} {i} {v} t h q k = record {
   so_far = λ j c. by_cases (dec_lt j i)
-      (λ p. k j ∙ rw (ne_eqb j i (omega arith), and-false (not (eqb (met_mark v) 0)), or_false (bit set j)) (t.so_far j p))
+      (λ p. k j ∙ rw (ne_eqb j i (omega arith), and-false (not (eqb (met_mark v) 0)), or-false (bit set j)) (t.so_far j p))
       (λ p. let x : j ≡ i = omega arith in k j ∙ rw (x, t.past i (omega arith), eq-eqb i i refl, ← q, and-true (not (eqb (met_mark v) 0))));
-  past = λ j c. k j ∙ rw (ne_eqb j i (omega arith), and-false (not (eqb (met_mark v) 0)), or_false (bit set j)) (t.past j (omega arith));
+  past = λ j c. k j ∙ rw (ne_eqb j i (omega arith), and-false (not (eqb (met_mark v) 0)), or-false (bit set j)) (t.past j (omega arith));
   within = omega arith;
 }
 

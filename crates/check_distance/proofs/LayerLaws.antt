@@ -1,6 +1,6 @@
 -- What the loops over the levels keep: each level is that of `layer`, by the bits of the rows.
 use Rattle.lib_base.proofs.Prelude.{ℕ, ◌≤◌, ◌<◌, ◌+◌, ◌-◌, suc, zero, ◌^◌, ◌≡◌, refl, ◌∙◌, sym, ap, true, false, Bool}
-use Rattle.lib_base.proofs.Prelude.{◌||◌, ◌&&◌, not, or_false, and-false, and-true, ◌≢◌, by_cases, List, length, get_or}
+use Rattle.lib_base.proofs.Prelude.{◌||◌, ◌&&◌, not, or-false, and-false, and-true, ◌≢◌, by_cases, List, length, get_or}
 use Rattle.lib_base.proofs.Prelude.{length-set, set, get_or-set_other, get_or-set_same, eqb, ltb, sub-zero, add-one, dec_lt}
 use Rattle.lib_base.proofs.Prelude.{ne_eqb, eqb-true, le-ltb, lt-ltb, eq-eqb, eqb-false, arith}
 use lib.Bits.{bit_and, and_le_l}
@@ -99,7 +99,7 @@ module _ (rows : List ℕ) (n : ℕ) (few : n ≤ 64) where
     }
       where
         others : (x : ℕ) → x ≢ j → bit found x || (any_below 64 (both (get_or rows j 0) set) && eqb x j) ≡ bit found x
-        others x d = rw (ne_eqb x j d, and-false (any_below 64 (both (get_or rows j 0) set))) (or_false (bit found x))
+        others x d = rw (ne_eqb x j d, and-false (any_below 64 (both (get_or rows j 0) set))) (or-false (bit found x))
 
 -- ---- steps back
 

@@ -1,7 +1,7 @@
 -- The matrix that the code fills is the program's: each cell is followed through the marks, row by row, and the names
 -- of an expression are those of its nodes.
 use Rattle.lib_base.proofs.Prelude.{ℕ, ◌≤◌, ◌<◌, ◌+◌, suc, zero, ◌*◌, ◌%◌, ◌/◌, ◌^◌, ◌≡◌, refl, ◌∙◌, sym, subst, true}
-use Rattle.lib_base.proofs.Prelude.{false, Bool, ◌||◌, ◌&&◌, not, or_false, or-true, and-false, and-true, or_assoc, ◌≢◌}
+use Rattle.lib_base.proofs.Prelude.{false, Bool, ◌||◌, ◌&&◌, not, or-false, or-true, and-false, and-true, or_assoc, ◌≢◌}
 use Rattle.lib_base.proofs.Prelude.{by_cases, List, [], ◌∷◌, ◌++◌, length, get_or, take, drop, length-set, set}
 use Rattle.lib_base.proofs.Prelude.{length-drop, get_or-set_other, get_or-set_same, ext_get_or, get_or-drop, take-suc, eqb, ltb}
 use Rattle.lib_base.proofs.Prelude.{dec_lt, ne_eqb, eqb-true, eq-eqb, ltb-false, eqb-false, ltb-true, arith}
@@ -67,7 +67,7 @@ unfolding node_names
 a_name but b x e h n = rw (e, eq-eqb (node_word x) b h, ne_eqb but b n)
 
 as_was : (v : ℕ) (s t : Bool) → t ≡ false → v ≡ one? s → v ≡ one? (s || t)
-as_was v s t e h = rw (e, or_false s) h
+as_was v s t e h = rw (e, or-false s) h
 
 -- its own row takes in the name
 module _ (m : List ℕ) (i but x b : ℕ) (s : Bool) (l : length m ≡ 4096) (p : i < 64) (h : b < 64) (was : at m i b ≡ one? s) where
@@ -124,7 +124,7 @@ nodes_here d m i but start (suc k) b l p h q z =
     let ih = nodes_here d m i but start k b l p h (omega arith) z in
     let r : k < length (drop start d) = rw length-drop (omega arith) in
     let e : some_node_names but b (take (suc k) (drop start d)) ≡ some_node_names but b (take k (drop start d)) || node_names but b (get_or d (start + k) 0) =
-    rw (take-suc (drop start d) k 0 r, named_join but b (take k (drop start d)) (get_or (drop start d) k 0 ∷ []), get_or-drop start d k 0, some_node_names, or_false) in
+    rw (take-suc (drop start d) k 0 r, named_join but b (take k (drop start d)) (get_or (drop start d) k 0 ∷ []), get_or-drop start d k 0, some_node_names, or-false) in
     rw e (node_here w i but (get_or d (start + k) 0) b (some_node_names but b (take k (drop start d))) long p h ih)
 
 -- ---- the nodes of an expression
@@ -144,20 +144,20 @@ unfolding some_node_names node_names
 name_names but b i h =
     let t : node_tag (73014444032 + i) ≡ 17 = omega arith in
     let w : node_word (73014444032 + i) ≡ i = omega arith in
-    rw (t, w, or_false)
+    rw (t, w, or-false)
 
 expr_names : (but b : ℕ) {k : ℕ} {x : Expr} → Nested k x → some_node_names but b (nodes x) ≡ mentions b x && not (eqb but b)
 unfolding nodes mentions
 expr_names but b (n_con {w = w} h) = con_names but b w h
 expr_names but b (n_name {i = i} h) = name_names but b i h
 expr_names but b (n_app1 {f = f} {a = x} h hx) =
-    rw (named_join but b (nodes x) ((77309411328 + f) ∷ []), app_names but b f 1 h, or_false) (expr_names but b hx)
+    rw (named_join but b (nodes x) ((77309411328 + f) ∷ []), app_names but b f 1 h, or-false) (expr_names but b hx)
 expr_names but b (n_app2 {f = f} {a = x} {b = y} h hx hy) =
     rw (
       named_join but b (nodes x) (nodes y ++ ((77309411328 + f) ∷ [])),
       named_join but b (nodes y) ((77309411328 + f) ∷ []),
       app_names but b f 2 h,
-      or_false,
+      or-false,
       expr_names but b hx,
       expr_names but b hy,
     ) (sym (and-or_distrib_right (mentions b x) (mentions b y) (not (eqb but b))))
@@ -167,7 +167,7 @@ expr_names but b (n_app3 {f = f} {a = x} {b = y} {c = z} h hx hy hz) =
       named_join but b (nodes y) (nodes z ++ ((77309411328 + f) ∷ [])),
       named_join but b (nodes z) ((77309411328 + f) ∷ []),
       app_names but b f 3 h,
-      or_false,
+      or-false,
       expr_names but b hx,
       expr_names but b hy,
       expr_names but b hz,

@@ -1,6 +1,6 @@
 -- The rows as sets are the rows of the matrix: both take in the same names, node by node.
 use Rattle.lib_base.proofs.Prelude.{ℕ, ◌≤◌, ◌<◌, ◌+◌, ◌-◌, suc, zero, ◌*◌, ◌≡◌, refl, ◌∙◌, sym, ap, subst, true, false}
-use Rattle.lib_base.proofs.Prelude.{Bool, ◌||◌, ◌&&◌, not, or_false, and-false, ◌≢◌, by_cases, List, [], ◌∷◌, length}
+use Rattle.lib_base.proofs.Prelude.{Bool, ◌||◌, ◌&&◌, not, or-false, and-false, ◌≢◌, by_cases, List, [], ◌∷◌, length}
 use Rattle.lib_base.proofs.Prelude.{get_or, take, drop, length-set, set, length-drop, get_or-set_other, get_or-set_same}
 use Rattle.lib_base.proofs.Prelude.{get_or-drop, take-suc, eqb, ltb, add-one, dec_lt, ne_eqb, eqb-true, le-ltb, lt-ltb}
 use Rattle.lib_base.proofs.Prelude.{eq-eqb, eqb-false, arith}
@@ -25,7 +25,7 @@ module _ (n but x b : ℕ) where
   adds = ltb b n && node_names but b x
 
   nothing : adds ≡ false → (s : Bool) → s ≡ s || adds
-  nothing e s = sym (rw e (or_false s))
+  nothing e s = sym (rw e (or-false s))
 
   no_names : node_names but b x ≡ false → (s : Bool) → s ≡ s || adds
   no_names e = nothing (rw e (and-false (ltb b n)))
@@ -70,7 +70,7 @@ gathered_turn {d} {i} {but} {n} {start} {count} {s} {s'} {k} {x} g l h t q e =
     let r : k < length (drop start u) = rw length-drop (omega (arith, length_used d i)) in
     let z : x ≡ get_or (drop start u) k 0 = q ∙ sym (used_at d i (start + k)) ∙ sym (get_or-drop start u k 0) in
     let more : (b : ℕ) → some_node_names but b (take (suc k) (drop start u)) ≡ some_node_names but b (take k (drop start u)) || node_names but b x =
-    λ b. rw (take-suc (drop start u) k 0 r, named_join but b (take k (drop start u)) (get_or (drop start u) k 0 ∷ []), ← z, some_node_names, or_false) in
+    λ b. rw (take-suc (drop start u) k 0 r, named_join but b (take k (drop start u)) (get_or (drop start u) k 0 ∷ []), ← z, some_node_names, or-false) in
     record {
       within = omega arith;
       bits = λ b. e b ∙ ap (λ (y : Bool). y || (ltb b n && node_names but b x)) (g.bits b) ∙ both (ltb b n) _ (node_names but b x)

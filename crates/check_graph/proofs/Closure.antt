@@ -1,7 +1,7 @@
 -- The closed matrix decides `Reach`: passing through k adds exactly the pairs (i, j) with i to k and k to j, so what is
 -- marked is reached, and the marks are closed under every node that is passed.
 use Rattle.lib_base.proofs.Prelude.{ℕ, ◌≤◌, ◌<◌, ◌+◌, suc, zero, ◌*◌, ◌≡◌, refl, ◌∙◌, sym, ap, subst, true, false, Bool}
-use Rattle.lib_base.proofs.Prelude.{◌||◌, false≢true, ◌&&◌, not, and-eq-true_iff, or_false, or-true, ◌≢◌, by_cases, ◌⊎◌}
+use Rattle.lib_base.proofs.Prelude.{◌||◌, false≢true, ◌&&◌, not, and-eq-true_iff, or-false, or-true, ◌≢◌, by_cases, ◌⊎◌}
 use Rattle.lib_base.proofs.Prelude.{⊎_elim, inr, inl, List, length, get_or, length-set, set, get_or-set_other}
 use Rattle.lib_base.proofs.Prelude.{get_or-set_same, eqb, ltb, dec_lt, lt-ltb, ltb-true, arith}
 use Rattle.lib_base.proofs.Tools.{by_test, or_either, split}
@@ -75,7 +75,7 @@ row_in m i k (suc c) b l o p q =
     (λ e. set_other w i c i b (omega arith) (omega arith) (λ x y. omega arith) ∙ row_in m i k c b l o (omega arith) s))
     (λ s. let f : c ≡ b = omega arith in subst (λ z. cell (close_cell w i k c) i z ≡ cell m i z || cell m k z) f
     (by_test (λ x. cell x i c ≡ cell m i c || cell m k c) (eqb (get_or w (k * 64 + c) 0) 0)
-    (λ e. let z : cell m k c ≡ false = sym here ∙ ap not e in rw z (mine ∙ sym (or_false (cell m i c))))
+    (λ e. let z : cell m k c ≡ false = sym here ∙ ap not e in rw z (mine ∙ sym (or-false (cell m i c))))
     (λ e. let z : cell m k c ≡ true = sym here ∙ ap not e in rw z (set_same w i c long o (omega arith) ∙ sym (or-true (cell m i c))))))
 
 -- ---- it does so only where i depends on k
@@ -90,7 +90,7 @@ through_in : (m : List ℕ) (i k n b : ℕ) → length m ≡ 4096 → i < 64 →
 unfolding close_through
 through_in m i k n b l o p q =
     by_test (λ x. cell x i b ≡ cell m i b || (cell m i k && cell m k b)) (eqb (get_or m (i * 64 + k) 0) 0)
-    (λ e. let z : cell m i k ≡ false = ap not e in rw z (sym (or_false (cell m i b))))
+    (λ e. let z : cell m i k ≡ false = ap not e in rw z (sym (or-false (cell m i b))))
     (λ e. let z : cell m i k ≡ true = ap not e in rw z (row_in m i k n b l o p q))
 
 -- ---- a pass through k: row k and column k stay as they were

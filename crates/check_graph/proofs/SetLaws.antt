@@ -1,7 +1,7 @@
 -- A need is met in the set exactly if it is marked: the bits of what row and set share are those of the row. Equal bits
 -- make equal numbers.
 use Rattle.lib_base.proofs.Prelude.{ℕ, ◌≤◌, ◌<◌, ◌+◌, suc, zero, ◌*◌, ◌%◌, ◌/◌, ◌^◌, ◌≡◌, refl, ◌∙◌, sym, ap, true}
-use Rattle.lib_base.proofs.Prelude.{false, Bool, ◌||◌, true≢false, ◌&&◌, not, or_false, or-true, ◌≢◌, by_cases, List}
+use Rattle.lib_base.proofs.Prelude.{false, Bool, ◌||◌, true≢false, ◌&&◌, not, or-false, or-true, ◌≢◌, by_cases, List}
 use Rattle.lib_base.proofs.Prelude.{length, get_or, length-set, set, get_or-set_other, get_or-set_same, ext_get_or, eqb}
 use Rattle.lib_base.proofs.Prelude.{pow-suc, dec_lt, eqb-true, eqb-false, arith}
 use native.Mathlib.Nat.{pow-succ', div-div-eq-div-mul}
@@ -75,15 +75,15 @@ pub length_marks : (s : ℕ) → length (marks_of s) ≡ 64
 unfolding marks_of
 length_marks s = length_up_to 64 _
 
-not_not : (b : Bool) → not (not b) ≡ b
-not_not true = refl
-not_not false = refl
+not-not : (b : Bool) → not (not b) ≡ b
+not-not true = refl
+not-not false = refl
 
 pub cell_bytes_law : (rows : List ℕ) (i j : ℕ) → i < 64 → j < 64 → cell (bytes_of rows) i j ≡ bit (get_or rows i 0) j
-cell_bytes_law rows i j h k = rw (bytes_at rows i j h k, one_zero) (not_not (bit (get_or rows i 0) j))
+cell_bytes_law rows i j h k = rw (bytes_at rows i j h k, one_zero) (not-not (bit (get_or rows i 0) j))
 
 pub marked_is : (s j : ℕ) → j < 64 → is_marked (marks_of s) j ≡ bit s j
-marked_is s j h = rw (marks_at s j h, one_zero) (not_not (bit s j))
+marked_is s j h = rw (marks_at s j h, one_zero) (not-not (bit s j))
 
 -- one more in the set is one more mark
 pub marks_set : (s s' i : ℕ) → i < 64 → ((j : ℕ) → bit s' j ≡ bit s j || eqb j i) → set (marks_of s) i 1 ≡ marks_of s'
@@ -95,7 +95,7 @@ marks_set s s' i h e =
     at j c =
         split (eqb j i)
         (λ t. rw (t, or-true (bit s j), eqb-true j i t) (get_or-set_same (marks_of s) i 1 0 (omega (arith, length_marks s))))
-        (λ t. let d : j ≢ i = eqb-false j i t in rw (t, or_false (bit s j)) (get_or-set_other (marks_of s) i j 1 0 d ∙ marks_at s j c))
+        (λ t. let d : j ≢ i = eqb-false j i t in rw (t, or-false (bit s j)) (get_or-set_other (marks_of s) i j 1 0 d ∙ marks_at s j c))
 
 -- ---- what is met
 

@@ -1,7 +1,7 @@
 -- The sets that the code gathers on a draft are those of its program: the names of an expression are those of its
 -- nodes, by induction, and an entry holds what the behaviour does.
 use Rattle.lib_base.proofs.Prelude.{ℕ, ◌≤◌, ◌<◌, ◌+◌, suc, zero, ◌^◌, ◌≡◌, refl, ◌∙◌, sym, ap, false, Bool, ◌||◌}
-use Rattle.lib_base.proofs.Prelude.{true≢false, ◌&&◌, or_false, or_assoc, List, [], ◌∷◌, ◌++◌, length, get_or, take, drop}
+use Rattle.lib_base.proofs.Prelude.{true≢false, ◌&&◌, or-false, or_assoc, List, [], ◌∷◌, ◌++◌, length, get_or, take, drop}
 use Rattle.lib_base.proofs.Prelude.{length-drop, get_or-drop, take-suc, eqb, leb, ne_eqb, arith}
 use Rattle.lib_base.proofs.Tools.{all_at_or}
 use Rattle.spec_language.specs.Syntax.{Expr, Behaviour, passive, active, Program}
@@ -42,7 +42,7 @@ among_nodes d j start zero h = refl
 among_nodes d j start (suc k) h =
     let r : k < length (drop start d) = rw length-drop (omega arith) in
     let e : among j (take (suc k) (drop start d)) ≡ among j (take k (drop start d)) || is_name j (get_or d (start + k) 0) =
-    rw (take-suc (drop start d) k 0 r, among_join j (take k (drop start d)) (get_or (drop start d) k 0 ∷ []), get_or-drop start d k 0, among, or_false) in
+    rw (take-suc (drop start d) k 0 r, among_join j (take k (drop start d)) (get_or (drop start d) k 0 ∷ []), get_or-drop start d k 0, among, or-false) in
     any_more k (λ i. is_name j (get_or d (start + i) 0))
     ∙ ap (λ (x : Bool). x || is_name j (get_or d (start + k) 0)) (among_nodes d j start k (omega arith))
     ∙ sym e
@@ -68,19 +68,19 @@ unfolding among is_name
 name_names j i h =
     let t : node_tag (73014444032 + i) ≡ 17 = omega arith in
     let w : node_word (73014444032 + i) ≡ i = omega arith in
-    rw (t, w, or_false)
+    rw (t, w, or-false)
 
 expr_names : (j : ℕ) {k : ℕ} {x : Expr} → Nested k x → among j (nodes x) ≡ mentions j x
 unfolding nodes mentions
 expr_names j (n_con {w = w} h) = con_names j w h
 expr_names j (n_name {i = i} h) = name_names j i h
-expr_names j (n_app1 {f = f} {a = x} h hx) = rw (among_join j (nodes x) ((77309411328 + f) ∷ []), app_names j f 1 h, or_false) (expr_names j hx)
+expr_names j (n_app1 {f = f} {a = x} h hx) = rw (among_join j (nodes x) ((77309411328 + f) ∷ []), app_names j f 1 h, or-false) (expr_names j hx)
 expr_names j (n_app2 {f = f} {a = x} {b = y} h hx hy) =
     rw (
       among_join j (nodes x) (nodes y ++ ((77309411328 + f) ∷ [])),
       among_join j (nodes y) ((77309411328 + f) ∷ []),
       app_names j f 2 h,
-      or_false,
+      or-false,
       expr_names j hx,
       expr_names j hy,
     )
@@ -90,7 +90,7 @@ expr_names j (n_app3 {f = f} {a = x} {b = y} {c = z} h hx hy hz) =
       among_join j (nodes y) (nodes z ++ ((77309411328 + f) ∷ [])),
       among_join j (nodes z) ((77309411328 + f) ∷ []),
       app_names j f 3 h,
-      or_false,
+      or-false,
       expr_names j hx,
       expr_names j hy,
       expr_names j hz,

@@ -1,6 +1,6 @@
 -- A set gathered number by number: what is in it after i turns of a loop, for every loop of this crate.
 use Rattle.lib_base.proofs.Prelude.{ℕ, ◌≤◌, ◌<◌, ◌+◌, suc, ◌≡◌, refl, ◌∙◌, sym, ap, true, false, Bool, ◌||◌, ◌&&◌}
-use Rattle.lib_base.proofs.Prelude.{or_false, or-true, and-false, eqb, add-one, eqb-true, eq-eqb, arith}
+use Rattle.lib_base.proofs.Prelude.{or-false, or-true, and-false, eqb, add-one, eqb-true, eq-eqb, arith}
 use Rattle.lib_base.proofs.Tools.{split}
 use Rattle.lib_bits.specs.Bits.{bit}
 use Rattle.lib_bits.proofs.BitLaws.{bit_none}
@@ -10,7 +10,7 @@ use Rattle.check_graph.proofs.Any.{any_none, any_some}
 -- one number more to look at
 pub any_more : (n : ℕ) (f : ℕ → Bool) → any_below (suc n) f ≡ any_below n f || f n
 unfolding any_below
-any_more n f = split (f n) (λ t. rw (t, any_below) (sym (or-true (any_below n f)))) (λ t. rw (t, any_below) (sym (or_false (any_below n f))))
+any_more n f = split (f n) (λ t. rw (t, any_below) (sym (or-true (any_below n f)))) (λ t. rw (t, any_below) (sym (or-false (any_below n f))))
 
 or_assoc_at : (a b c : Bool) → (a || b) || c ≡ a || (b || c)
 or_assoc_at true b c = refl
@@ -27,7 +27,7 @@ begin most more n = record { holds = λ j h. bit_none j; within = omega arith }
 
 pub begin_with : (most : ℕ) (set : ℕ) (more : ℕ → ℕ → Bool) (n : ℕ) → Gathered most (λ j. bit set j) more n set 0
 unfolding any_below
-begin_with most set more n = record { holds = λ j h. sym (or_false (bit set j)); within = omega arith }
+begin_with most set more n = record { holds = λ j h. sym (or-false (bit set j)); within = omega arith }
 
 pub turn : {most : ℕ} {base : ℕ → Bool} {more : ℕ → ℕ → Bool} {n set i next : ℕ} → Gathered most base more n set i → i < n
     → ((j : ℕ) → j < most → bit next j ≡ bit set j || more j i) → Gathered most base more n next (i + 1)

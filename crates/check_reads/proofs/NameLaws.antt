@@ -1,5 +1,5 @@
 -- A node as the name that it is: the branches of the code.
-use Rattle.lib_base.proofs.Prelude.{ℕ, ◌≤◌, ◌<◌, ◌≡◌, ◌∙◌, sym, ap, Bool, ◌||◌, or_false, and-false, eqb, ne_eqb}
+use Rattle.lib_base.proofs.Prelude.{ℕ, ◌≤◌, ◌<◌, ◌≡◌, ◌∙◌, sym, ap, Bool, ◌||◌, or-false, and-false, eqb, ne_eqb}
 use Rattle.lib_base.proofs.Prelude.{eqb-true, eq-eqb, eqb-false, arith}
 use Rattle.lib_base.proofs.Tools.{split}
 use Rattle.lib_bits.specs.Bits.{bit}
@@ -15,8 +15,8 @@ a_name x j set next t e = rw (eq-eqb (node_tag x) 17 t) (e ∙ ap (λ (b : Bool)
 
 pub no_name : (x j set : ℕ) → (node_tag x ≡ 17 → ⊥) → bit set j ≡ bit set j || is_name j x
 unfolding is_name
-no_name x j set t = rw (ne_eqb (node_tag x) 17 t) (sym (or_false (bit set j)))
+no_name x j set t = rw (ne_eqb (node_tag x) 17 t) (sym (or-false (bit set j)))
 
 pub far_name : (x j set : ℕ) → 64 ≤ node_word x → j < 64 → bit set j ≡ bit set j || is_name j x
 unfolding is_name
-far_name x j set h b = rw (ne_eqb (node_word x) j (λ q. omega arith), and-false (eqb (node_tag x) 17)) (sym (or_false (bit set j)))
+far_name x j set h b = rw (ne_eqb (node_word x) j (λ q. omega arith), and-false (eqb (node_tag x) 17)) (sym (or-false (bit set j)))

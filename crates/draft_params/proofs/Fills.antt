@@ -1,8 +1,8 @@
 -- A draft that is filled in is that of the sheet's filling, and a parameter is found in it exactly if the sheet uses
 -- one: node by node, each by induction on the sheet.
 use Rattle.lib_base.proofs.Prelude.{ℕ, ◌≤◌, ◌<◌, ◌+◌, ◌-◌, suc, zero, ◌*◌, ◌%◌, ◌/◌, ◌^◌, max, ◌≡◌, refl, ◌∙◌, sym, ap}
-use Rattle.lib_base.proofs.Prelude.{subst, true, false, Bool, ◌||◌, ◌&&◌, or_false, or-true, and-false, and-true}
-use Rattle.lib_base.proofs.Prelude.{or_assoc, ◌≢◌, List, [], ◌∷◌, ◌++◌, map, map_append, length, get_or, take, drop}
+use Rattle.lib_base.proofs.Prelude.{subst, true, false, Bool, ◌||◌, ◌&&◌, or-false, or-true, and-false, and-true}
+use Rattle.lib_base.proofs.Prelude.{or_assoc, ◌≢◌, List, [], ◌∷◌, ◌++◌, map, map-append, length, get_or, take, drop}
 use Rattle.lib_base.proofs.Prelude.{length-set, length-drop, length-map, get_or-set_other, get_or-set_same, ext_get_or}
 use Rattle.lib_base.proofs.Prelude.{length-take-le, get_or-drop, take-suc, get_or-take, eqb, ltb, ne_eqb, eqb-true, lt-ltb}
 use Rattle.lib_base.proofs.Prelude.{eq-eqb, eqb-false, ltb-true, arith}
@@ -48,7 +48,7 @@ module _ (ps : List ℕ) where
 
   fill_append : (l m : List ℕ) → fill_all (l ++ m) ≡ fill_all l ++ fill_all m
   unfolding fill_all
-  fill_append l m = map_append (filled_node ps) l m
+  fill_append l m = map-append (filled_node ps) l m
 
   other_node : (x : ℕ) → node_tag x ≢ 19 → filled_node ps x ≡ x
   unfolding filled_node
@@ -326,13 +326,13 @@ term_any (t_literal {w = w} h) = no_param (68719476736 + w) (λ e. omega arith)
 term_any (t_variable {i = i} h) = no_param (73014444032 + i) (λ e. omega arith)
 term_any (t_param {n = n} h) = param_found n h ∙ sym (lt-ltb 0 (suc n) (omega arith))
 term_any (t_apply1 {f = f} {a = a} r p) =
-    rw (any_append (nodes (fill_term unfilled a)) ((77309411328 + f) ∷ []), app_none f 1 r, or_false) (term_any p)
+    rw (any_append (nodes (fill_term unfilled a)) ((77309411328 + f) ∷ []), app_none f 1 r, or-false) (term_any p)
 term_any (t_apply2 {f = f} {a = a} {b = b} r p q) =
     rw (
       any_append (nodes (fill_term unfilled a)) (nodes (fill_term unfilled b) ++ ((77309411328 + f) ∷ [])),
       any_append (nodes (fill_term unfilled b)) ((77309411328 + f) ∷ []),
       app_none f 2 r,
-      or_false,
+      or-false,
       term_any p,
       term_any q,
     )
@@ -343,7 +343,7 @@ term_any (t_apply3 {f = f} {a = a} {b = b} {c = c} r p q t) =
       any_append (nodes (fill_term unfilled b)) (nodes (fill_term unfilled c) ++ ((77309411328 + f) ∷ [])),
       any_append (nodes (fill_term unfilled c)) ((77309411328 + f) ∷ []),
       app_none f 3 r,
-      or_false,
+      or-false,
       term_any p,
       term_any q,
       term_any t,
@@ -375,10 +375,10 @@ unfolding any_param any_in
 pass_any d zero h = refl
 pass_any d (suc n) h =
     let e : any_in (take (suc n) d) ≡ any_in (take n d) || eqb (node_tag (get_or d n 0)) 19 =
-    rw (take-suc d n 0 (omega arith), any_append (take n d) (get_or d n 0 ∷ []), any_in, or_false) in
+    rw (take-suc d n 0 (omega arith), any_append (take n d) (get_or d n 0 ∷ []), any_in, or-false) in
     split (eqb (node_tag (get_or d n 0)) 19)
     (λ t. rw (e, t, any_param, or-true (any_in (take n d))))
-    (λ t. rw (e, t, any_param, or_false) (pass_any d n (omega arith)))
+    (λ t. rw (e, t, any_param, or-false) (pass_any d n (omega arith)))
 
 -- a parameter is found exactly if the sheet uses one
 draft_uses : {ev bs n : ℕ} {d : List ℕ} (o : SheetDraft ev bs n d) → any_param d n ≡ uses o.sheet

@@ -1,7 +1,7 @@
 -- The passives of a sheet written out are those that were sent, so their nodes are among the draft's: a row has none.
 -- By induction on the sheet.
 use Rattle.lib_base.proofs.Prelude.{ℕ, ◌≤◌, ◌+◌, suc, zero, ◌≡◌, refl, ◌∙◌, ap, Option, List, [], ◌∷◌, ◌++◌, map}
-use Rattle.lib_base.proofs.Prelude.{map_append, flat_map, length, length-append, arith}
+use Rattle.lib_base.proofs.Prelude.{map-append, flat_map, length, length-append, arith}
 use Rattle.spec_language.specs.Syntax.{Behaviour}
 use Rattle.spec_language.specs.Sheet.{Clause, Item, formula, state, row, Entry, meant, rename_clauses, cells_out, entry_out, entries_out, fill_term, fill_item, fill_entries}
 use Rattle.spec_language.specs.Order.{up_to}
@@ -23,7 +23,7 @@ module _ (v : ℕ → ℕ) where
 
   passives_append : (ys zs : List Entry) → passive_nodes (fill_entries v (ys ++ zs)) ≡ passive_nodes (fill_entries v ys) + passive_nodes (fill_entries v zs)
   unfolding fill_entries
-  passives_append ys zs = ap passive_nodes (map_append (λ (x : Entry). fill_item v x.item) ys zs) ∙ together ys (fill_entries v zs)
+  passives_append ys zs = ap passive_nodes (map-append (λ (x : Entry). fill_item v x.item) ys zs) ∙ together ys (fill_entries v zs)
 
   -- actives have none
   none_made : (m : Option ℕ) (s k : ℕ) (f : ℕ → List Clause) → passive_nodes (fill_entries v (map (λ (y : Item). record { item = y; viewer = m }) (up_to k (λ j. state s (f j))))) ≡ 0

@@ -2,7 +2,7 @@
 -- chain from one that is seen stays among those that are seen, step by step, and the first answer that is not 0 is the
 -- least.
 use Rattle.lib_base.proofs.Prelude.{ℕ, ◌<◌, ◌-◌, ◌≡◌, refl, ◌∙◌, sym, true, false, Bool, true≢false, ◌&&◌}
-use Rattle.lib_base.proofs.Prelude.{and-eq-true_iff, ◌≢◌, by_cases, dec_lt, not-true, not_false, arith}
+use Rattle.lib_base.proofs.Prelude.{and-eq-true_iff, ◌≢◌, by_cases, dec_lt, not-true, not-false, arith}
 use Rattle.lib_base.specs.Basics.{All}
 use Rattle.lib_base.proofs.Tools.{split, by_test, chosen, not_chosen, passed}
 use Rattle.spec_language.specs.Syntax.{Program}
@@ -58,7 +58,7 @@ module _ (p : Program) (each : All (BehaviourFits (events p)) p.behaviours) (kno
       (λ t. first_none (size p) 0 (leak_at (size p) hid (names p) i)
       (λ j c d. by_test (λ x. x ≡ 0) (names p i j && hid j)
       (λ u. let g = (and-eq-true_iff (names p i j) (hid j)).0 u in
-      absurd (true≢false (sym (sealed_direct p player h i j (not_false (may_see p player i) t) g.0) ∙ not-true (may_see p player j) g.1)))
+      absurd (true≢false (sym (sealed_direct p player h i j (not-false (may_see p player i) t) g.0) ∙ not-true (may_see p player j) g.1)))
       (λ u. refl))))
 
   pub zero_is : Sealed p player → leak_in p player ≡ 0
@@ -82,7 +82,7 @@ module _ (p : Program) (each : All (BehaviourFits (events p)) p.behaviours) (kno
         is = sym b.answer ∙ c.1;
         seen_in = omega (arith, a.below);
         hidden_in_law = omega (arith, b.below);
-        sees = not_false (may_see p player i) g.0;
+        sees = not-false (may_see p player i) g.0;
         not_sees = not-true (may_see p player j) t.1;
         named = t.0;
         least_seen = λ k l s n u. by_cases (dec_lt k i) (λ w. absurd (from_zero k s (a.before k (omega arith) w) l n u)) (λ w. omega arith);

@@ -36,9 +36,9 @@ use Rattle.engine_order.proofs.Blocks.{taken_by, steps_take_none, board_takes_no
 
 -- ---- rows of calls on bytes
 
-pub map_append : (cs ds : List Call) → map call (cs ++ ds) ≡ map call cs ++ map call ds
-map_append [] ds = refl
-map_append (c ∷ cs) ds = ap (λ (l : List Turn). call c ∷ l) (map_append cs ds)
+pub map-append : (cs ds : List Call) → map call (cs ++ ds) ≡ map call cs ++ map call ds
+map-append [] ds = refl
+map-append (c ∷ cs) ds = ap (λ (l : List Turn). call c ∷ l) (map-append cs ds)
 
 -- the bytes after calls: the table stays
 pub calls_leave : (t : List ℕ) (cs : List Call) (l : List ℕ) → bytes_after (map calls cs) (bytes t l) ≡ bytes t (round_after t cs l)
@@ -102,7 +102,7 @@ module _ (l₀ t l : List ℕ) (order : EventOrder) (s : State) (h : Stand l₀ 
       let here : number_in v ≡ n = sym (number_is l₀ (bytes t (round_after t (step_calls k) l)) v st) ∙ at in
       let took : taken_by (call (arrive e who) ∷ []) v ≡ arrival n e who ∷ [] =
       one_arrival e who v (arrival_taken l₀ t (round_after t (step_calls k) l) v st e who z) ∙ ap (λ (x : ℕ). arrival x e who ∷ []) here in
-      subst (Onward order s) (sym (map_append (step_calls k) (arrive e who ∷ [])))
+      subst (Onward order s) (sym (map-append (step_calls k) (arrive e who ∷ [])))
       (onward_rows order s ts (call (arrive e who) ∷ []) (runs_append ts (call (arrive e who) ∷ []) s) (steps_onward k)
       (takes_next order v (call (arrive e who) ∷ []) n b here took))
 
@@ -156,10 +156,10 @@ walked l₀ order (c ∷ cs) b s h small o =
     let w = walked l₀ order cs b' v st on.within o.1 in
     let es : List Call = app_lists order cs b' in
     let first : bytes_after (map calls ds) b ≡ b' = calls_leave t ds l ∙ ap (bytes t) (sym here) in
-    let same : run_turns (map call (ds ++ es)) s ≡ run_turns (map call es) v = ap (λ (x : List Turn). run_turns x s) (map_append ds es) ∙ runs_append (map call ds) (map call es) s in
+    let same : run_turns (map call (ds ++ es)) s ≡ run_turns (map call es) v = ap (λ (x : List Turn). run_turns x s) (map-append ds es) ∙ runs_append (map call ds) (map call es) s in
     record {
       leaves = w.leaves ∙ ap (bytes_after (map calls es)) (sym first) ∙ sym (bytes_append ds es b);
-      onward = subst (Onward order s) (sym (map_append ds es)) (onward_rows order s (map call ds) (map call es) (runs_append (map call ds) (map call es) s) on w.onward);
+      onward = subst (Onward order s) (sym (map-append ds es)) (onward_rows order s (map call ds) (map call es) (runs_append (map call ds) (map call es) s) on w.onward);
       stand = subst (Stand l₀ (app_after order cs b')) (sym same) w.stand;
     }
 

@@ -3,7 +3,7 @@
 -- of a count begin; the rest by induction on the entries, and on the expressions.
 use Rattle.lib_base.proofs.Prelude.{ℕ, ◌≤◌, ◌<◌, ◌+◌, ◌-◌, suc, zero, ◌*◌, ◌%◌, ◌/◌, ◌≡◌, refl, ◌∙◌, sym, ap, false}
 use Rattle.lib_base.proofs.Prelude.{◌≢◌, by_cases, Option, List, [], ◌∷◌, ◌++◌, map, append_assoc, append-nil}
-use Rattle.lib_base.proofs.Prelude.{map_append, flat_map, length, get_or, length-append, length-map, List·getD-append}
+use Rattle.lib_base.proofs.Prelude.{map-append, flat_map, length, get_or, length-append, length-map, List·getD-append}
 use Rattle.lib_base.proofs.Prelude.{get_or-append-add, eqb, ltb, dec_lt, ne_eqb, eqb-true, eq-eqb, ltb-false, eqb-false}
 use Rattle.lib_base.proofs.Prelude.{ltb-true, arith}
 use Rattle.lib_base.specs.Basics.{pick, All}
@@ -263,8 +263,8 @@ unfolding entries_out spread flat_map
 viewers_out xs [] = refl
 viewers_out xs (y ∷ ys) =
     rw (
-      map_append (λ (x : Entry). allowed x.viewer) (entry_out xs y) (entries_out xs ys),
-      map_append (λ (x : Entry). allowed x.viewer) (spread_entry y) (spread ys),
+      map-append (λ (x : Entry). allowed x.viewer) (entry_out xs y) (entries_out xs ys),
+      map-append (λ (x : Entry). allowed x.viewer) (spread_entry y) (spread ys),
       viewers_item xs y.viewer y.item,
       viewers_out xs ys,
     )
@@ -325,20 +325,20 @@ module _ (d : List ℕ) (xs : List Entry) (n : ℕ) (fits : All (EntryFits n) xs
   term_moved (t_literal {w = w} h) = rw (other_node (68719476736 + w) (λ e. omega arith))
   term_moved (t_variable {i = m} h) = rw (name_node m h)
   term_moved (t_param {n = m} h) = rw (other_node (68719476736 + (12884901888 + m)) (λ e. omega arith))
-  term_moved (t_apply1 {f = f} {a = x} r p) = rw (map_append (moved d i) (raw x) ((77309411328 + f) ∷ []), term_moved p, app_node f 1 r)
+  term_moved (t_apply1 {f = f} {a = x} r p) = rw (map-append (moved d i) (raw x) ((77309411328 + f) ∷ []), term_moved p, app_node f 1 r)
   term_moved (t_apply2 {f = f} {a = x} {b = y} r p q) =
       rw (
-        map_append (moved d i) (raw x) (raw y ++ ((77309411328 + f) ∷ [])),
-        map_append (moved d i) (raw y) ((77309411328 + f) ∷ []),
+        map-append (moved d i) (raw x) (raw y ++ ((77309411328 + f) ∷ [])),
+        map-append (moved d i) (raw y) ((77309411328 + f) ∷ []),
         term_moved p,
         term_moved q,
         app_node f 2 r,
       )
   term_moved (t_apply3 {f = f} {a = x} {b = y} {c = z} r p q o) =
       rw (
-        map_append (moved d i) (raw x) (raw y ++ (raw z ++ ((77309411328 + f) ∷ []))),
-        map_append (moved d i) (raw y) (raw z ++ ((77309411328 + f) ∷ [])),
-        map_append (moved d i) (raw z) ((77309411328 + f) ∷ []),
+        map-append (moved d i) (raw x) (raw y ++ (raw z ++ ((77309411328 + f) ∷ []))),
+        map-append (moved d i) (raw y) (raw z ++ ((77309411328 + f) ∷ [])),
+        map-append (moved d i) (raw z) ((77309411328 + f) ∷ []),
         term_moved p,
         term_moved q,
         term_moved o,

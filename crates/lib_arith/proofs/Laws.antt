@@ -4,7 +4,7 @@ use Rattle.lib_base.proofs.Prelude.{ℕ, ◌≤◌, ◌<◌, ◌+◌, ◌-◌, s
 use Rattle.lib_base.proofs.Prelude.{false, Bool, ◌||◌, ◌&&◌, not, eqb, ltb, ne_eqb, le-ltb, lt-ltb, eq-eqb, ltb-false}
 use Rattle.lib_base.proofs.Prelude.{ltb-true, arith}
 use Rattle.std.proofs.Common.{cond, ℤ, pos, negsuc, ◌+ℤ◌, ◌-ℤ◌, ◌*ℤ◌, neg_ℤ, div-le_self}
-use mathlib.Core.Bool.{not_not}
+use mathlib.Core.Bool.{not-not}
 use lib.IntN.{sub_ℕ}
 use lib.Signed.{lt_z}
 use Rattle.lib_base.specs.Basics.{pick}
@@ -158,7 +158,7 @@ pub and_first_true : (a b r : ℕ) → (a ≡ 0 → ⊥) → r ≡ reported (tru
 and_first_true a b r n p = rw (is_true_signed a, is_true_signed b, ne_eqb a 0 n) p
 
 pub not_of : (a : ℕ) → eqb a 0 ≡ not (is_true (signed a))
-not_of a = rw (is_true_signed a) (sym (not_not (eqb a 0)))
+not_of a = rw (is_true_signed a) (sym (not-not (eqb a 0)))
 
 pub third_if : (a b c : ℕ) → a ≡ 0 → c < 2 ^ 32 → c ≡ reported (pick (is_true (signed a)) (signed b) (signed c))
 third_if a b c e h = rw (is_true_signed a, eq-eqb a 0 e) (word_reported c h)

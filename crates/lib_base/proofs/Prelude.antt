@@ -2,12 +2,12 @@
 -- `omega arith` and `search rules`.
 pub use Prim.Native.Nat.{ℕ, ◌≤◌, ◌<◌, ◌+◌, ◌-◌, suc, zero, ◌*◌, ◌%◌, ◌/◌, ◌^◌, max}
 pub use mathlib.Core.Path.{◌≡◌, refl, ◌∙◌, sym, ap, subst}
-pub use mathlib.Core.Bool.{true, false, Bool, ◌||◌, false≢true, true≢false, ◌&&◌, not, and-eq-true_iff, or_false}
+pub use mathlib.Core.Bool.{true, false, Bool, ◌||◌, false≢true, true≢false, ◌&&◌, not, and-eq-true_iff, or-false}
 pub use mathlib.Core.Bool.{or-true, and-false, and-true, or_assoc}
 pub use mathlib.Core.Logic.{◌≢◌, by_cases, ◌⊎◌, ⊎_elim, inr, inl}
 pub use mathlib.Core.Option.{Option, some, none}
 pub use mathlib.Core.List.Permᴰ.{trans as List·Permᴰ·trans}
-pub use mathlib.Core.List.{List, [], ◌∷◌, ◌++◌, map, append_assoc, append-nil, Permᴰ as List-as-Permᴰ, map_append}
+pub use mathlib.Core.List.{List, [], ◌∷◌, ◌++◌, map, append_assoc, append-nil, Permᴰ as List-as-Permᴰ, map-append}
 pub use mathlib.Core.List.Permᴰ.{cons as List·Permᴰ·cons}
 pub use mathlib.Core.List.Permᴰ.{swap as List·Permᴰ·swap}
 pub use mathlib.Core.List.Permᴰ.{symm as Permᴰ·symm}
@@ -32,6 +32,6 @@ pub use native.Mathlib.Nat.{sub-zero, pow-suc, mul-le-mul_left}
 pub use native.Mathlib.Numerals.{add-one, sub-one}
 pub use native.Mathlib.Decide.{dec_lt, ℕ_discrete}
 pub use borrow.Author.Tests.{ne_eqb, eqb-true, le-ltb, lt-ltb, eq-eqb, ltb-false, eqb-false, ltb-true, lt-leb, le-leb}
-pub use borrow.Author.Tests.{leb-false, leb-true, not-true, not_false}
+pub use borrow.Author.Tests.{leb-false, leb-true, not-true, not-false}
 pub use borrow.Author.Rules.{rules}
 pub use native.Mathlib.Omega.{arith}

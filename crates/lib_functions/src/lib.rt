@@ -5,7 +5,7 @@ ghost use Rattle.std.specs.Int.Signed.{lt_z};
 ghost use Rattle.lib_base.specs.Basics.{pick};
 ghost use Rattle.lib_arith.specs.Exact.{signed};
 ghost use Rattle.lib_arith.specs.Marked.{reported};
-ghost use Rattle.lib_arith.specs.Functions.{is_true, truth, result};
+ghost use Rattle.lib_arith.specs.Functions.{is_true, truth, result_of};
 ghost use Rattle.lib_arith.specs.Marked.{marked_result};
 
 use lib_signature::functions;
@@ -15,49 +15,49 @@ pub const OVER: u64 = lib_overflow::OVER;
 
 // What a test gives: 1 or 0.
 fn truth(t: bool) -> u64
-    ensures* { λ r. ⌜ r ≡ reported (truth t) ⌝ }
+    ensures { result ≡ reported (truth t) }
 {
     if t { 1 } else { 0 }
 }
 
 // `||`
 fn either(a: u32, b: u32) -> u64
-    ensures* { λ r. ⌜ r ≡ reported (truth (is_true (signed a) || is_true (signed b))) ⌝ }
+    ensures { result ≡ reported (truth (is_true (signed a) || is_true (signed b))) }
 {
     if a == 0 { truth(b != 0) } else { 1 }
 }
 
 // `&&`
 fn both(a: u32, b: u32) -> u64
-    ensures* { λ r. ⌜ r ≡ reported (truth (is_true (signed a) && is_true (signed b))) ⌝ }
+    ensures { result ≡ reported (truth (is_true (signed a) && is_true (signed b))) }
 {
     if a == 0 { 0 } else { truth(b != 0) }
 }
 
 // `!`
 fn opposite(a: u32) -> u64
-    ensures* { λ r. ⌜ r ≡ reported (truth (not (is_true (signed a)))) ⌝ }
+    ensures { result ≡ reported (truth (not (is_true (signed a)))) }
 {
     truth(a == 0)
 }
 
 // `==`: neither is below the other.
 fn same(a: u32, b: u32) -> u64
-    ensures* { λ r. ⌜ r ≡ reported (truth (not (lt_z (signed a) (signed b)) && not (lt_z (signed b) (signed a)))) ⌝ }
+    ensures { result ≡ reported (truth (not (lt_z (signed a) (signed b)) && not (lt_z (signed b) (signed a)))) }
 {
     truth(a == b)
 }
 
 // `!=`: one is below the other.
 fn differ(a: u32, b: u32) -> u64
-    ensures* { λ r. ⌜ r ≡ reported (truth (lt_z (signed a) (signed b) || lt_z (signed b) (signed a))) ⌝ }
+    ensures { result ≡ reported (truth (lt_z (signed a) (signed b) || lt_z (signed b) (signed a))) }
 {
     truth(a != b)
 }
 
 // `if`
 fn choose(a: u32, b: u32, c: u32) -> u64
-    ensures* { λ r. ⌜ r ≡ reported (pick (is_true (signed a)) (signed b) (signed c)) ⌝ }
+    ensures { result ≡ reported (pick (is_true (signed a)) (signed b) (signed c)) }
 {
     if a == 0 { c as u64 } else { b as u64 }
 }
@@ -65,7 +65,7 @@ fn choose(a: u32, b: u32, c: u32) -> u64
 // The function with the number f on the words a, b and c; it looks only at those that it needs. Its word, and 2^32 more
 // where it ran over. A number that is no function's gives 0.
 pub fn apply(f: u8, a: u32, b: u32, c: u32) -> u64
-    ensures* { λ r. ⌜ r ≡ marked_result f a b c ⌝ }
+    ensures { result ≡ marked_result f a b c }
 {
     match f {
         functions::OR => either(a, b),
@@ -88,7 +88,7 @@ pub fn apply(f: u8, a: u32, b: u32, c: u32) -> u64
 
 // Its word alone.
 pub fn word_of(f: u8, a: u32, b: u32, c: u32) -> u32
-    ensures* { λ r. ⌜ r ≡ result f a b c ⌝ }
+    ensures { result ≡ result_of f a b c }
 {
     (apply(f, a, b, c) % lib_word::WORD_VALUES) as u32
 }

@@ -1,7 +1,7 @@
 -- Which whole numbers differ from their 32-bit one, and which quotients of two words do, in natural numbers: by the
 -- cases of the two signs (`View`).
 use Rattle.lib_base.proofs.Prelude.{ℕ, ◌≤◌, ◌<◌, ◌+◌, ◌-◌, suc, zero, ◌/◌, ◌≡◌, refl, ◌∙◌, sym, true, false, Bool, ◌||◌}
-use Rattle.lib_base.proofs.Prelude.{or_false, ◌≢◌, eqb, ltb, mul-le-mul_left, ne_eqb, eqb-true, le-ltb, lt-ltb}
+use Rattle.lib_base.proofs.Prelude.{or-false, ◌≢◌, eqb, ltb, mul-le-mul_left, ne_eqb, eqb-true, le-ltb, lt-ltb}
 use Rattle.lib_base.proofs.Prelude.{ltb-false, eqb-false, ltb-true, arith}
 use native.Mathlib.Nat.{div-le_self, div-mul-le_self, mul-le-mul_right}
 use lib.IntN.{ℤ, pos, negsuc, neg_ℤ}
@@ -26,7 +26,7 @@ beyond_minus (suc n) = beyond_neg n ∙ same_test 2147483647 n 2147483648 (suc n
 
 -- the numbers beyond 32 bits are those above the largest and those below the least
 pub outside : (z : ℤ) → lt_z (pos 2147483647) z || lt_z z (negsuc 2147483647) ≡ beyond z
-outside (pos n) = or_false (ltb 2147483647 n) ∙ sym (beyond_pos n)
+outside (pos n) = or-false (ltb 2147483647 n) ∙ sym (beyond_pos n)
 outside (negsuc n) = sym (beyond_neg n)
 
 -- ---- quotients

@@ -2,7 +2,7 @@
 -- Each answer from the facts that lead to it.
 use Rattle.lib_base.proofs.Prelude.{ℕ, ◌≤◌, ◌<◌, ◌+◌, ◌-◌, ◌≡◌, ◌∙◌, sym, ap, true, false, Bool, not, List, [], ◌++◌}
 use Rattle.lib_base.proofs.Prelude.{length, take, drop, replicate, length-replicate, take-length, ne_eqb, le-ltb}
-use Rattle.lib_base.proofs.Prelude.{eq-eqb, not-true, not_false, arith}
+use Rattle.lib_base.proofs.Prelude.{eq-eqb, not-true, not-false, arith}
 use Rattle.lib_base.specs.Basics.{All}
 use Rattle.lib_word.specs.Word.{get}
 use Rattle.spec_language.specs.Refusals.{unlike_ranks}
@@ -62,7 +62,7 @@ module _ {s t ps : List ℕ} (x : AcceptedSheet s ps) (y : AcceptedSheet t ps) w
   alike buffer b o o' n answer q e w h =
       let z : n - 0 ≡ n = omega arith in
       let v : take (n - 0) (drop 0 o') ≡ encode (pooled x.sheet y.sheet) = ap (λ (k : ℕ). take k o') z ∙ w.bytes ∙ spliced_read in
-      h ∙ ap (λ (u : List ℕ). result_on u ps buffer) v ∙ sym (opened buffer ∙ rw (sym ranks_read ∙ sym q ∙ not_false b e))
+      h ∙ ap (λ (u : List ℕ). result_on u ps buffer) v ∙ sym (opened buffer ∙ rw (sym ranks_read ∙ sym q ∙ not-false b e))
 
 -- ---- the branches
 

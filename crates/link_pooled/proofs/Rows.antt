@@ -2,7 +2,7 @@
 -- first means what it meant there, since the first's numbers are unchanged, and a name of the second, moved up, means
 -- what it meant, moved up. By induction on entries and expressions.
 use Rattle.lib_base.proofs.Prelude.{ℕ, ◌≤◌, ◌<◌, ◌+◌, ◌-◌, suc, zero, ◌≡◌, refl, ◌∙◌, sym, ap, Option, List, [], ◌∷◌}
-use Rattle.lib_base.proofs.Prelude.{◌++◌, map, append_assoc, map_append, flat_map, eqb, ltb, ne_eqb, le-ltb, ltb-false}
+use Rattle.lib_base.proofs.Prelude.{◌++◌, map, append_assoc, map-append, flat_map, eqb, ltb, ne_eqb, le-ltb, ltb-false}
 use Rattle.lib_base.proofs.Prelude.{arith}
 use Rattle.lib_base.specs.Basics.{All}
 use Rattle.lib_base.proofs.Tools.{by_test, split, all_split}
@@ -155,7 +155,7 @@ module _ (v : ℕ → ℕ) (k l : List Entry) where
 
 moved_append : (n : ℕ) (k l : List Entry) → move_entries n (k ++ l) ≡ move_entries n k ++ move_entries n l
 unfolding change_entries
-moved_append n k l = map_append (change_entry (move_term n)) k l
+moved_append n k l = map-append (change_entry (move_term n)) k l
 
 module _ (e : ℕ) (k l : List Entry) (fits : All (EntryFits e) k) where
   abbrev all : List Entry

@@ -2,7 +2,7 @@
 -- name and application has four bytes of the sheet at least, a behaviour's head three, a row no passive, and a sheet
 -- has 8,192. By induction on expressions and behaviours.
 use Rattle.lib_base.proofs.Prelude.{ℕ, ◌≤◌, ◌+◌, suc, zero, ◌*◌, ◌≡◌, refl, ◌∙◌, ap, Option, List, [], ◌∷◌, ◌++◌, map}
-use Rattle.lib_base.proofs.Prelude.{map_append, flat_map, sum, length, get_or, length-append, arith}
+use Rattle.lib_base.proofs.Prelude.{map-append, flat_map, sum, length, get_or, length-append, arith}
 use Rattle.spec_language.specs.Syntax.{Handler, Behaviour, active}
 use Rattle.spec_language.specs.Sheet.{Term, literal, variable, param, apply1, apply2, apply3, Clause, Item, formula, state, row, Entry, Sheet, meant, rename_clauses, cells_out, entry_out, entries_out, fill_term, fill_clauses, fill_item, fill_entries, fill}
 use Rattle.spec_language.specs.Grammar.{encode_expr, encode_item, encode_behaviours, encode, SheetFits}
@@ -64,7 +64,7 @@ module _ (v : ℕ → ℕ) where
 
   entries_append : (ys zs : List Entry) → shares (fill_entries v (ys ++ zs)) ≡ shares (fill_entries v ys) + shares (fill_entries v zs)
   unfolding fill_entries
-  entries_append ys zs = ap shares (map_append (λ (x : Entry). fill_item v x.item) ys zs) ∙ shares_append (fill_entries v ys) (fill_entries v zs)
+  entries_append ys zs = ap shares (map-append (λ (x : Entry). fill_item v x.item) ys zs) ∙ shares_append (fill_entries v ys) (fill_entries v zs)
 
   entries_bytes : (xs ys : List Entry) → shares (fill_entries v (entries_out xs ys)) * 3 ≤ length (encode_behaviours ys)
   unfolding entries_out flat_map fill_entries shares encode_behaviours

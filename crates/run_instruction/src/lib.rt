@@ -2,7 +2,7 @@
 // evaluation stack is handed in and answered by value: its word in the round is the caller's to write.
 ghost use Rattle.std.specs.Prelude.{◌≡◌, ◌+◌, ◌≤◌, ◌<◌, length};
 ghost use Rattle.lib_word.specs.Word.{get};
-ghost use Rattle.lib_arith.specs.Functions.{result, over};
+ghost use Rattle.lib_arith.specs.Functions.{result_of, over};
 ghost use Rattle.run_instruction.specs.Stack.{noted};
 ghost use Rattle.run_instruction.specs.Instruction.{transfer};
 ghost use Rattle.run_instruction.specs.Execution.{left, pushed_on, popped_to, applied_one, applied_two, applied_three, moved_in, executed};
@@ -31,7 +31,7 @@ const THIRD: usize = round::STACK - 3;
 // Word `from` of the round goes to word `to`.
 fn transfer_word(round: &mut [u8], depth: u32, from: usize, to: usize) -> u32
     requires { (round_bytes ≤ length round.old) × (from < round_words) × (to < round_words) }
-    ensures* { λ r. ⌜ left r round.new ≡ left depth (transfer round.old from to) ⌝ }
+    ensures { left result round.new ≡ left depth (transfer round.old from to) }
 {
     let value = lib_word::get_word(round, from);
     lib_word::put_word(round, to, value);
@@ -41,7 +41,7 @@ fn transfer_word(round: &mut [u8], depth: u32, from: usize, to: usize) -> u32
 // A value goes on top of the stack; not on a full one.
 fn push(round: &mut [u8], depth: u32, value: u32) -> u32
     requires { round_bytes ≤ length round.old }
-    ensures* { λ r. ⌜ left r round.new ≡ pushed_on round.old depth value ⌝ }
+    ensures { left result round.new ≡ pushed_on round.old depth value }
 {
     if depth < FULL {
         lib_word::put_word(round, round::STACK + (depth as usize), value);
@@ -52,7 +52,7 @@ fn push(round: &mut [u8], depth: u32, value: u32) -> u32
 
 fn push_word(round: &mut [u8], depth: u32, from: usize) -> u32
     requires { (round_bytes ≤ length round.old) × (from < round_words) }
-    ensures* { λ r. ⌜ left r round.new ≡ pushed_on round.old depth (get round.old from) ⌝ }
+    ensures { left result round.new ≡ pushed_on round.old depth (get round.old from) }
 {
     let value = lib_word::get_word(round, from);
     push(round, depth, value)
@@ -61,7 +61,7 @@ fn push_word(round: &mut [u8], depth: u32, from: usize) -> u32
 // The stack's top goes to word `to`; not that of an empty one.
 fn pop(round: &mut [u8], depth: u32, to: usize) -> u32
     requires { (round_bytes ≤ length round.old) × (depth ≤ stack_depth) × (to < round_words) }
-    ensures* { λ r. ⌜ left r round.new ≡ popped_to round.old depth to ⌝ }
+    ensures { left result round.new ≡ popped_to round.old depth to }
 {
     if depth > 0 {
         let value = lib_word::get_word(round, TOP + (depth as usize));
@@ -74,8 +74,8 @@ fn pop(round: &mut [u8], depth: u32, to: usize) -> u32
 // Function f on the words a, b and c: its word, and the mark set where it runs over.
 fn call_on(round: &mut [u8], f: u8, a: u32, b: u32, c: u32) -> u32
     requires { round_bytes ≤ length round.old }
-    ensures* r_value { λ r. ⌜ r ≡ result f a b c ⌝ }
-    ensures* round_after { λ _. ⌜ round.new ≡ noted round.old (over f a b c) ⌝ }
+    ensures r_value { result ≡ result_of f a b c }
+    ensures round_after { round.new ≡ noted round.old (over f a b c) }
 {
     let answer = lib_functions::apply(f, a, b, c);
     if answer < lib_functions::OVER {
@@ -88,7 +88,7 @@ fn call_on(round: &mut [u8], f: u8, a: u32, b: u32, c: u32) -> u32
 // Function f takes its arguments, one, two or three, from the stack, and puts its result.
 fn apply_one(round: &mut [u8], depth: u32, f: u8) -> u32
     requires { (round_bytes ≤ length round.old) × (depth ≤ stack_depth) }
-    ensures* { λ r. ⌜ left r round.new ≡ applied_one round.old depth f ⌝ }
+    ensures { left result round.new ≡ applied_one round.old depth f }
 {
     if depth < 1 {
         return NONE;
@@ -101,7 +101,7 @@ fn apply_one(round: &mut [u8], depth: u32, f: u8) -> u32
 
 fn apply_two(round: &mut [u8], depth: u32, f: u8) -> u32
     requires { (round_bytes ≤ length round.old) × (depth ≤ stack_depth) }
-    ensures* { λ r. ⌜ left r round.new ≡ applied_two round.old depth f ⌝ }
+    ensures { left result round.new ≡ applied_two round.old depth f }
 {
     if depth < 2 {
         return NONE;
@@ -115,7 +115,7 @@ fn apply_two(round: &mut [u8], depth: u32, f: u8) -> u32
 
 fn apply_three(round: &mut [u8], depth: u32, f: u8) -> u32
     requires { (round_bytes ≤ length round.old) × (depth ≤ stack_depth) }
-    ensures* { λ r. ⌜ left r round.new ≡ applied_three round.old depth f ⌝ }
+    ensures { left result round.new ≡ applied_three round.old depth f }
 {
     if depth < 3 {
         return NONE;
@@ -131,7 +131,7 @@ fn apply_three(round: &mut [u8], depth: u32, f: u8) -> u32
 // An operation that applies no function, on slot k: off, on, and those that move a word.
 fn move_on(round: &mut [u8], operation: u32, k: usize, constant: u32, depth: u32) -> u32
     requires { (round_bytes ≤ length round.old) × (depth ≤ stack_depth) }
-    ensures* { λ r. ⌜ left r round.new ≡ moved_in round.old operation k constant depth ⌝ }
+    ensures { left result round.new ≡ moved_in round.old operation k constant depth }
 {
     if k >= limits::BEHAVIOURS {
         return NONE;
@@ -155,7 +155,7 @@ fn move_on(round: &mut [u8], operation: u32, k: usize, constant: u32, depth: u32
 // run. A function's application is told by operation and function together; each instruction asks for its own stack.
 pub fn execute(round: &mut [u8], code: u32, constant: u32, depth: u32) -> u32
     requires { (round_bytes ≤ length round.old) × (depth ≤ stack_depth) }
-    ensures* { λ r. ⌜ left r round.new ≡ executed round.old code constant depth ⌝ }
+    ensures { left result round.new ≡ executed round.old code constant depth }
 {
     match code {
         codes::OR => apply_two(round, depth, functions::OR),

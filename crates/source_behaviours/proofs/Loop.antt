@@ -1,6 +1,6 @@
 -- The loop over behaviours: what it keeps (`Turn`), at the start, over a turn, and at its ends.
 use Rattle.lib_base.proofs.Prelude.{ℕ, ◌≤◌, ◌<◌, ◌+◌, ◌-◌, suc, zero, ◌*◌, ◌≡◌, refl, ◌∙◌, sym, ap, true, false, List}
-use Rattle.lib_base.proofs.Prelude.{[], ◌∷◌, ◌++◌, map, append_assoc, append-nil, map_append, length, take, length-set}
+use Rattle.lib_base.proofs.Prelude.{[], ◌∷◌, ◌++◌, map, append_assoc, append-nil, map-append, length, take, length-set}
 use Rattle.lib_base.proofs.Prelude.{set, length-append, length-take, get_or-set_other, get_or-set_same, take_all}
 use Rattle.lib_base.proofs.Prelude.{take-append-le, eqb, eqb-true, eqb-false, arith}
 use Rattle.lib_base.specs.Basics.{All}
@@ -165,7 +165,7 @@ module _ (text : List ℕ) (find : List ℕ → NameMeaning) (events : List ℕ)
             taken_so = after_more with_behaviour (taken (names_held text old first) 0) s.done x
                 ∙ rw s.taken_so (with_behaviour_law (names_held text names count) i x ∙ rw (h.named, h.celled, held_more text names count p m));
             named = named_more text names count p m
-                ∙ rw (s.named, map_append name_of_behaviour s.done (x ∷ []), h.named) (append_assoc (map (name_at text) (take first old)) (map name_of_behaviour s.done) (name_at text p ∷ []));
+                ∙ rw (s.named, map-append name_of_behaviour s.done (x ∷ []), h.named) (append_assoc (map (name_at text) (take first old)) (map name_of_behaviour s.done) (name_at text p ∷ []));
             counted = omega (arith, s.counted, length-append s.done (x ∷ []));
             summed = omega (arith, s.summed, cells_more s.done x, h.celled);
             started = starts_more starts s.done x (count + 1 - first) (i + cells) s.started (omega (arith, s.counted)) b (omega (arith, s.summed, h.celled));

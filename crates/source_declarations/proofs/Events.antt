@@ -1,7 +1,7 @@
 -- Events read one after the other: those so far come before those that are left, their names stand at the first places,
 -- and their fields are written (`EventTurn`). What each return of the readers of events comes to.
 use Rattle.lib_base.proofs.Prelude.{ℕ, ◌≤◌, ◌<◌, ◌+◌, ◌*◌, ◌≡◌, refl, ◌∙◌, sym, ap, true, false, Bool, Option, some}
-use Rattle.lib_base.proofs.Prelude.{none, List, [], ◌∷◌, ◌++◌, map, append_assoc, append-nil, map_append, length, take}
+use Rattle.lib_base.proofs.Prelude.{none, List, [], ◌∷◌, ◌++◌, map, append_assoc, append-nil, map-append, length, take}
 use Rattle.lib_base.proofs.Prelude.{length-set, set, length-append, eqb, leb, ne_eqb, le-ltb, lt-ltb, leb-false, arith}
 use Rattle.lib_base.proofs.Tools.{split}
 use Rattle.spec_language.specs.Grammar.{encode_event, encode_events}
@@ -277,7 +277,7 @@ events_turn {text} {at} {n} {o} {names} {out} {here} {count} {end} d r p v after
           ∙ rw (held_more text names count q c);
       counted = rw length-append (omega (arith, t.counted));
       few = omega arith;
-      named = named_more text names count q c ∙ rw t.named (sym (map_append name_of_event t.found (event (name_at text q) rank y.players ∷ [])));
+      named = named_more text names count q c ∙ rw t.named (sym (map-append name_of_event t.found (event (name_at text q) rank y.players ∷ [])));
       onward = omega (arith, t.onward);
       within = b.1;
       kept = rw length-set t.kept;

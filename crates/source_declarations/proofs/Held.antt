@@ -1,7 +1,7 @@
 -- Names held by their places: a place that is written behind them changes none, and those of a list of declarations are
 -- the names taken after it.
 use Rattle.lib_base.proofs.Prelude.{ℕ, ◌≤◌, ◌<◌, ◌+◌, suc, zero, ◌≡◌, refl, ◌∙◌, sym, ap, List, [], ◌∷◌, ◌++◌, map}
-use Rattle.lib_base.proofs.Prelude.{map_append, length, get_or, take, set, get_or-set_other, get_or-set_same, take-suc}
+use Rattle.lib_base.proofs.Prelude.{map-append, length, get_or, take, set, get_or-set_other, get_or-set_same, take-suc}
 use Rattle.lib_base.proofs.Prelude.{take-suc-set, add-one, arith}
 use mathlib.Core.List.{reverse_aux, reverse_aux-append}
 use Rattle.source_language.specs.Text.{Parameter, parameter, TextEvent, event}
@@ -26,7 +26,7 @@ unfolding names_held
 held_more text places n p h = rw (add-one, get_or-set_same places n p 0 h, held_before text places n p n (omega arith))
 
 pub named_more : (text places : List ℕ) (n p : ℕ) → n < length places → map (name_at text) (take (n + 1) (set places n p)) ≡ map (name_at text) (take n places) ++ (name_at text p ∷ [])
-named_more text places n p h = rw (add-one, take-suc-set places n p h) (map_append (name_at text) (take n places) (p ∷ []))
+named_more text places n p h = rw (add-one, take-suc-set places n p h) (map-append (name_at text) (take n places) (p ∷ []))
 
 -- the names at the first n places, the last one first
 pub held_reversed : (text places : List ℕ) (n : ℕ) → n ≤ length places → names_held text places n ≡ reverse_aux (map (name_at text) (take n places)) []
@@ -36,7 +36,7 @@ held_reversed text places (suc n) h =
     ap (λ ns. name_at text (get_or places n 0) ∷ ns) (held_reversed text places n (omega arith))
     ∙ sym
     (ap (λ ps. reverse_aux (map (name_at text) ps) []) (take-suc places n 0 (omega arith))
-    ∙ ap (λ ns. reverse_aux ns []) (map_append (name_at text) (take n places) (get_or places n 0 ∷ []))
+    ∙ ap (λ ns. reverse_aux ns []) (map-append (name_at text) (take n places) (get_or places n 0 ∷ []))
     ∙ reverse_aux-append (map (name_at text) (take n places)) (name_at text (get_or places n 0) ∷ []) [])
 
 parameters_taken : (ns : List (List ℕ)) (ps : List Parameter) → after_all with_parameter ns ps ≡ reverse_aux (map name_of_parameter ps) ns

@@ -1,7 +1,7 @@
 -- Parameters read one after the other: those so far come before those that are left, and their names stand at the first
 -- places (`ParameterTurn`). What each return of the readers of parameters comes to.
 use Rattle.lib_base.proofs.Prelude.{ℕ, ◌≤◌, ◌<◌, ◌+◌, ◌*◌, ◌≡◌, refl, ◌∙◌, sym, true, false, Bool, Option, List, []}
-use Rattle.lib_base.proofs.Prelude.{◌∷◌, ◌++◌, map, map_append, length, take, length-set, set, length-append, eqb, leb}
+use Rattle.lib_base.proofs.Prelude.{◌∷◌, ◌++◌, map, map-append, length, take, length-set, set, length-append, eqb, leb}
 use Rattle.lib_base.proofs.Prelude.{ne_eqb, leb-false, arith}
 use Rattle.lib_base.proofs.Tools.{split}
 use Rattle.source_language.specs.Tokens.{SheetToken, sign, equals, param_word}
@@ -174,7 +174,7 @@ parameters_turn {text} {at} {names} {here} {count} d r p v after q u to t h e g 
           ∙ rw (held_more text names count q c);
       counted = rw length-append (omega (arith, t.counted));
       few = omega (arith, held_count text names count);
-      named = named_more text names count q c ∙ rw t.named (sym (map_append name_of_parameter t.found (parameter (name_at text q) y.value ∷ [])));
+      named = named_more text names count q c ∙ rw t.named (sym (map-append name_of_parameter t.found (parameter (name_at text q) y.value ∷ [])));
       onward = omega (arith, t.onward);
       within = b.1;
       kept = rw length-set t.kept;

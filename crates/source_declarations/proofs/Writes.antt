@@ -1,6 +1,6 @@
 -- The bytes of events are those of the sheet's signals.
 use Rattle.lib_base.proofs.Prelude.{ℕ, ◌+◌, ◌%◌, ◌≡◌, refl, ◌∙◌, sym, ap, Option, some, none, List, [], ◌∷◌, ◌++◌, map}
-use Rattle.lib_base.proofs.Prelude.{append_assoc, append-nil, map_append, length, ne_eqb, arith}
+use Rattle.lib_base.proofs.Prelude.{append_assoc, append-nil, map-append, length, ne_eqb, arith}
 use Rattle.spec_language.specs.Sheet.{Signal}
 use Rattle.spec_language.specs.Grammar.{encode_event, encode_events}
 use Rattle.source_language.specs.Text.{TextEvent, event}
@@ -18,7 +18,7 @@ events_join (x ∷ xs) ys = ap (λ bs. encode_event x ++ bs) (events_join xs ys)
 pub events_more : (es : List TextEvent) (e : TextEvent) → encode_events (map signal_of (es ++ (e ∷ []))) ≡ encode_events (map signal_of es) ++ encode_event (signal_of e)
 unfolding encode_events
 events_more es e =
-    ap encode_events (map_append signal_of es (e ∷ []))
+    ap encode_events (map-append signal_of es (e ∷ []))
     ∙ events_join (map signal_of es) (signal_of e ∷ [])
     ∙ ap (λ bs. encode_events (map signal_of es) ++ bs) (append-nil (encode_event (signal_of e)))
 

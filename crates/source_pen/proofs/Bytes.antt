@@ -1,5 +1,5 @@
 -- Which two bytes run together: the code's tests against the definitions, by the value of the first.
-use Rattle.lib_base.proofs.Prelude.{ℕ, ◌≡◌, refl, ◌∙◌, sym, ap, true, false, Bool, true≢false, or_false}
+use Rattle.lib_base.proofs.Prelude.{ℕ, ◌≡◌, refl, ◌∙◌, sym, ap, true, false, Bool, true≢false, or-false}
 use Rattle.lib_base.proofs.Prelude.{[], ◌∷◌, eqb, ne_eqb, eqb-true}
 use Rattle.lib_base.specs.Basics.{pick}
 use Rattle.lib_base.proofs.Tools.{split, neither}
@@ -27,7 +27,7 @@ word_no_mark a b h =
 
 pub words_together : (a b : ℕ) → in_word a ≡ true → in_word b ≡ run_together a b
 unfolding run_together
-words_together a b h = rw (h, word_no_mark a b h) (sym (or_false (in_word b)))
+words_together a b h = rw (h, word_no_mark a b h) (sym (or-false (in_word b)))
 
 -- the byte after one that a mark begins with
 after_equals : (b : ℕ) (x : Bool) → eqb b 61 ≡ x → x ≡ run_together 61 b

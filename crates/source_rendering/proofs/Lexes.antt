@@ -102,11 +102,11 @@ clash_marks : (a x : ℕ) → run_together a x ≡ false → sign_of (a ∷ x �
 unfolding run_together
 clash_marks a x h =
     let r = none_of (in_word a && in_word x) (not (eqb (sign_of (a ∷ x ∷ []) marks) 0)) h in
-    eqb-true (sign_of (a ∷ x ∷ []) marks) 0 (not_false (eqb (sign_of (a ∷ x ∷ []) marks) 0) r.1)
+    eqb-true (sign_of (a ∷ x ∷ []) marks) 0 (not-false (eqb (sign_of (a ∷ x ∷ []) marks) 0) r.1)
   where
-    not_false : (b : Bool) → not b ≡ false → b ≡ true
-    not_false true e = refl
-    not_false false e = absurd (true≢false e)
+    not-false : (b : Bool) → not b ≡ false → b ≡ true
+    not-false true e = refl
+    not-false false e = absurd (true≢false e)
 
 -- no row is spelled with a second byte of a kind
 unfoldable none_second : (ℕ → Bool) → List Spelling → Bool

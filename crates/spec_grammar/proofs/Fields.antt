@@ -2,7 +2,7 @@
 -- arithmetic on the length and `take`/`drop` at the seam.
 use Rattle.lib_base.proofs.Prelude.{ℕ, ◌≤◌, ◌<◌, ◌+◌, suc, ◌*◌, ◌%◌, ◌/◌, ◌≡◌, sym, ap, true, Bool, not, List, [], ◌∷◌}
 use Rattle.lib_base.proofs.Prelude.{◌++◌, length, get_or, take, drop, length-append, take-append-drop, length-take-le}
-use Rattle.lib_base.proofs.Prelude.{take-append_seam, ltb, le-ltb, ltb-false, not_false, arith}
+use Rattle.lib_base.proofs.Prelude.{take-append_seam, ltb, le-ltb, ltb-false, not-false, arith}
 use native.Mathlib.Numerals.{add-three}
 use lib.Seq.{drop-append_seam}
 use Rattle.lib_base.specs.Basics.{All}
@@ -59,7 +59,7 @@ field_of P due s f faulty good =
     by_test P (ltb (length s) 3) (λ e. faulty 4 (omega arith) (omega arith))
     (λ e. by_test P (not (due (get_or s 0 0))) (λ d. faulty 5 (omega arith) (omega arith))
     (λ d. by_test P (ltb (length s) (stated s + 3)) (λ c. faulty 4 (omega arith) (omega arith))
-    (λ c. good (get_or s 0 0) (take (stated s) (drop 3 s)) (drop (stated s + 3) s) (not_false (due (get_or s 0 0)) d)
+    (λ c. good (get_or s 0 0) (take (stated s) (drop 3 s)) (drop (stated s + 3) s) (not-false (due (get_or s 0 0)) d)
     (field_there s (ltb-false (length s) 3 e) (ltb-false (length s) (stated s + 3) c)))))
 
 -- the value and the rest of a field of bytes are bytes

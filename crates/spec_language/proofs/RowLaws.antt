@@ -1,7 +1,7 @@
 -- Laws of a sheet whose rows are written out: its number of behaviours, its limits, the parameters that it uses, and
 -- that writing out what has no row changes nothing. Each by induction on the entries, with all entries kept apart.
 use Rattle.lib_base.proofs.Prelude.{ℕ, ◌≤◌, ◌<◌, ◌+◌, ◌-◌, suc, zero, max, ◌≡◌, refl, ◌∙◌, ap, true, Bool, ◌||◌}
-use Rattle.lib_base.proofs.Prelude.{false≢true, Option, List, [], ◌∷◌, ◌++◌, map, map_append, flat_map, length}
+use Rattle.lib_base.proofs.Prelude.{false≢true, Option, List, [], ◌∷◌, ◌++◌, map, map-append, flat_map, length}
 use Rattle.lib_base.proofs.Prelude.{length-append, length-map, eqb, ltb, eqb-true, lt-ltb, ltb-false, ltb-true, arith}
 use Rattle.lib_base.specs.Basics.{pick, All}
 use Rattle.lib_base.proofs.Tools.{by_test, split, all_join}
@@ -220,7 +220,7 @@ module _ (v : ℕ → ℕ) where
   unfolding entries_out flat_map change_entries
   out_turn xs [] = refl
   out_turn xs (y ∷ ys) =
-      rw (map_append (change_entry (write_term v)) (entry_out xs y) (entries_out xs ys)) (λ t. cells_turn xs y.viewer y.item t ++ out_turn xs ys t)
+      rw (map-append (change_entry (write_term v)) (entry_out xs y) (entries_out xs ys)) (λ t. cells_turn xs y.viewer y.item t ++ out_turn xs ys t)
 
   pub written_rows : (s : Sheet) → rows_out (as_written_out v s) ≡ as_written_out v (rows_out s)
   written_rows s = λ t. record { signals = s.signals; entries = out_turn s.entries s.entries t }

@@ -1,6 +1,6 @@
 -- 11 and rows: names exist as a row means them exactly if they exist as they are sent, since a row that begins within
 -- the sheet ends there. By induction on the sheet.
-use Rattle.lib_base.proofs.Prelude.{ℕ, ◌<◌, suc, zero, ◌≡◌, ◌∙◌, Option, List, [], ◌∷◌, ◌++◌, map, map_append, flat_map}
+use Rattle.lib_base.proofs.Prelude.{ℕ, ◌<◌, suc, zero, ◌≡◌, ◌∙◌, Option, List, [], ◌∷◌, ◌++◌, map, map-append, flat_map}
 use Rattle.lib_base.proofs.Prelude.{arith}
 use Rattle.lib_base.specs.Basics.{All}
 use Rattle.lib_base.proofs.Tools.{split, all_join, all_split}
@@ -60,11 +60,11 @@ module _ (v : ℕ → ℕ) (xs : List Entry) where
 
   in_join : (ys zs : List Entry) → In ys → In zs → In (ys ++ zs)
   unfolding fill_entries
-  in_join ys zs h k = rw (map_append (λ (x : Entry). fill_item v x.item) ys zs) (all_join (BehaviourNamesIn n) (fill_entries v ys) (fill_entries v zs) h k)
+  in_join ys zs h k = rw (map-append (λ (x : Entry). fill_item v x.item) ys zs) (all_join (BehaviourNamesIn n) (fill_entries v ys) (fill_entries v zs) h k)
 
   in_split : (ys zs : List Entry) → In (ys ++ zs) → In ys × In zs
   unfolding fill_entries
-  in_split ys zs h = all_split (BehaviourNamesIn n) (fill_entries v ys) (fill_entries v zs) (rw (map_append (λ (x : Entry). fill_item v x.item) ys zs) at h)
+  in_split ys zs h = all_split (BehaviourNamesIn n) (fill_entries v ys) (fill_entries v zs) (rw (map-append (λ (x : Entry). fill_item v x.item) ys zs) at h)
 
   made_in : (m : Option ℕ) (k : ℕ) (f : ℕ → Item) → ((j : ℕ) → j < k → BehaviourNamesIn n (fill_item v (f j))) → In (map (made m) (up_to k f))
   unfolding up_to fill_entries

@@ -4,7 +4,7 @@
 use Rattle.lib_base.proofs.Prelude.{ℕ, ◌≤◌, ◌<◌, ◌+◌, suc, zero, ◌≡◌, refl, ◌∙◌, sym, ap, subst, true, false, Bool}
 use Rattle.lib_base.proofs.Prelude.{false≢true, true≢false, ◌&&◌, not, and-eq-true_iff, ◌≢◌, by_cases, ◌⊎◌, ⊎_elim, inr}
 use Rattle.lib_base.proofs.Prelude.{inl, Option, some, none, List, [], ◌∷◌, length, get_or, length-set, set}
-use Rattle.lib_base.proofs.Prelude.{get_or-set_other, get_or-set_same, dec_lt, not-true, not_false, arith}
+use Rattle.lib_base.proofs.Prelude.{get_or-set_other, get_or-set_same, dec_lt, not-true, not-false, arith}
 use Rattle.lib_base.specs.Basics.{All}
 use Rattle.lib_base.proofs.Tools.{by_elim, split, all_imp, by_option}
 use Rattle.spec_language.specs.Syntax.{Program}
@@ -134,7 +134,7 @@ module _ (p : Program) (e : ℕ) where
   met_late i h m = not-true _ (sym (met_is i h) ∙ m)
 
   unmet_early : (i : ℕ) → i < size p → Unmarked (met_at_once p e) i → early (response p e i) ≡ true
-  unmet_early i h m = not_false _ (sym (met_is i h) ∙ m)
+  unmet_early i h m = not-false _ (sym (met_is i h) ∙ m)
 
   module _ (known : Known p) where
     pub phase_one_ordered : Ordered (size p) (depends_on p e) (met_at_once p e) (phase_one p e)

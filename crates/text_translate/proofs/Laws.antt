@@ -91,16 +91,16 @@ unfolding large_tokens large_token
 large_last [] = refl
 large_last (t ∷ ts) = rw (large_last ts)
 
-or_false : (b : Bool) → pick b true false ≡ b
-or_false true = refl
-or_false false = refl
+or-false : (b : Bool) → pick b true false ≡ b
+or-false true = refl
+or-false false = refl
 
 large_derived : {l : ℕ} {ts : List Token} {e : Expr} → Derives l ts e → large_tokens ts ≡ large e
 unfolding large large_tokens large_token
 large_derived (tighter d) = large_derived d
 large_derived (two_sided {l} {f} {ts} {us} o p q) = large_both ts (function f ∷ us) ∙ rw (large_derived p, large_derived q)
 large_derived (negated d) = large_derived d
-large_derived (a_number {n}) = or_false (ltb 2147483647 n)
+large_derived (a_number {n}) = or-false (ltb 2147483647 n)
 large_derived a_name = refl
 large_derived (bracketed {ts} d) = large_last ts ∙ large_derived d
 large_derived (choice {ts} {us} {vs} p q r) =

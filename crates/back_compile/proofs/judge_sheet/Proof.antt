@@ -1,6 +1,6 @@
 -- Each answer rests on what was found up to there: the sheet read, its draft filled in, and the checks passed.
 use Rattle.lib_base.proofs.Prelude.{ℕ, ◌≤◌, ◌<◌, ◌≡◌, ◌∙◌, sym, ap, Bool, List, length, length-replicate, not-true}
-use Rattle.lib_base.proofs.Prelude.{not_false, rules, arith}
+use Rattle.lib_base.proofs.Prelude.{not-false, rules, arith}
 use Rattle.lib_base.specs.Basics.{All}
 use Rattle.draft_form.specs.Draft.{draft_length, DraftOf}
 use Rattle.draft_form.proofs.DraftLaws.{draft_long, draft_events, draft_behaviours}
@@ -40,7 +40,7 @@ module _ (w : tie.After-read-program) where
   short : length s ≤ 8192
   short = w.before.before.if1.left
 
-  reads : finished w.read-program.result_of drafted ≡ read_on s empty
+  reads : finished w.read-program.result drafted ≡ read_on s empty
   reads = rw entry.pre at w.read-program.ensures
 
 -- where it has a program
@@ -86,11 +86,11 @@ read_at c = c.before.before.before.before.before
 abbrev cycle_read : tie.After-has-cycle → tie.After-reading
 cycle_read c = read_at (fill_at_law (names_at c))
 
-names_told : (c : tie.After-names-known) {b : Bool} → c.names_known_law.result_of ≡ b
+names_told : (c : tie.After-names-known) {b : Bool} → c.names_known_law.result ≡ b
     → names_known (full (read_at (fill_at_law c))) (behaviours (read_at (fill_at_law c))) (nodes (read_at (fill_at_law c))) ≡ b
 names_told c e = rw (fill_at_law c).fill-draft.ensures at (sym c.names_known_law.ensures ∙ e)
 
-cycle_told : (c : tie.After-has-cycle) {b : Bool} → c.has-cycle.result_of ≡ b
+cycle_told : (c : tie.After-has-cycle) {b : Bool} → c.has-cycle.result ≡ b
     → cyclic_on (full (cycle_read c)) (events (cycle_read c)) (behaviours (cycle_read c)) ≡ b
 cycle_told c e = rw (fill_at_law (names_at c)).fill-draft.ensures at (sym c.has-cycle.ensures ∙ e)
 
@@ -132,7 +132,7 @@ returns_4 c =
     record {
       finding = lacking_falls (s w) (ps w) (bytes w) (short w) (lent w) (ready r)
           fill.before.before.lacks-param.ensures c.if3.true
-          (names_told named (not_false _ c.before.if2.false));
+          (names_told named (not-false _ c.before.if2.false));
     }
 
 has_cycle_requires : tie.Need-has-cycle-requires
@@ -150,7 +150,7 @@ returns_5 c =
     record {
       finding = rw fill.fill-draft.ensures (circular_turns (s w) (ps w) (bytes w) (short w) (lent w) (ready r)
           fill.before.before.lacks-param.ensures sought.before.before.if3.false
-          (names_told (names_at sought) (not_false _ sought.before.before.before.if2.false))
+          (names_told (names_at sought) (not-false _ sought.before.before.before.if2.false))
           (cycle_told sought c.if4.true));
     }
 
@@ -170,7 +170,7 @@ returns_6 c =
     record {
       finding = overlong_falls (s w) (ps w) (bytes w) (short w) (lent w) (ready r)
           fill.before.before.lacks-param.ensures sought.before.before.if3.false
-          (names_told (names_at sought) (not_false _ sought.before.before.before.if2.false))
+          (names_told (names_at sought) (not-false _ sought.before.before.before.if2.false))
           (cycle_told sought acyclic.if4.false)
           (rw fill.fill-draft.ensures at (rw c.before.count-all.ensures at c.if5.true));
     }
@@ -185,7 +185,7 @@ returns_7 c =
     record {
       finding = rw fill.fill-draft.ensures (all_passes (s w) (ps w) (bytes w) (short w) (lent w) (ready r)
           fill.before.before.lacks-param.ensures sought.before.before.if3.false
-          (names_told (names_at sought) (not_false _ sought.before.before.before.if2.false))
+          (names_told (names_at sought) (not-false _ sought.before.before.before.if2.false))
           (cycle_told sought acyclic.if4.false)
           (rw fill.fill-draft.ensures at (rw c.before.count-all.ensures at c.if5.false)));
     }

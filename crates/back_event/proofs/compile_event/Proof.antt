@@ -40,11 +40,11 @@ module _ (c : tie.After-count-members) where
       (event_words entry.args.draft.now entry.args.event entry.args.behaviours (take count order))
   has_room = room_as its_code entry.pre.1
 
-  behind : entry.args.place + 2 * (2 + c.count-members.result_of)
+  behind : entry.args.place + 2 * (2 + c.count-members.result)
       ≡ entry.args.place + length (masked_words entry.args.draft.now entry.args.event 768 entry.args.behaviours)
   behind = behind_copy _ _ _ entry.args.place _ c.count-members.ensures
 
-  few_members : c.count-members.result_of ≤ 64
+  few_members : c.count-members.result ≤ 64
   few_members = members_fit _ _ _ _ c.count-members.ensures entry.pre.0.0.few
 
 -- back from each phase

@@ -23,10 +23,10 @@ passives_length_spec =
     (λ c. sum_start)
     (λ c κs. omega arith)
     (λ c κs. omega (arith, sound_inside c.before.before.before.before.requires c.before.loop-test.true c.entry_of_law.ensures))
-    (λ c. omega (arith, again_small c.before.entry_of_law.result_of (omega (arith, sound_inside c.before.before.before.before.before.requires c.before.before.loop-test.true c.before.entry_of_law.ensures)), c.passive-length.ensures))
+    (λ c. omega (arith, again_small c.before.entry_of_law.result (omega (arith, sound_inside c.before.before.before.before.before.requires c.before.before.loop-test.true c.before.entry_of_law.ensures)), c.passive-length.ensures))
     (λ c. omega arith)
     (λ c. omega arith)
     (λ c.
     sum_turn c.before.before.before.loop.invariant c.before.before.loop-test.true (c.passive-length.ensures ∙ ap again_share c.before.entry_of_law.ensures)
-    (omega (arith, again_small c.before.entry_of_law.result_of (omega (arith, sound_inside c.before.before.before.before.before.requires c.before.before.loop-test.true c.before.entry_of_law.ensures)), c.passive-length.ensures)))
+    (omega (arith, again_small c.before.entry_of_law.result (omega (arith, sound_inside c.before.before.before.before.before.requires c.before.before.loop-test.true c.before.entry_of_law.ensures)), c.passive-length.ensures)))
     (λ c. omega (arith, sum_end c.before.loop.invariant c.loop-test.false)))

@@ -47,8 +47,8 @@ cast_put_word c =
       c.before.passives_start_law.ensures,
       c.before.before.count-event.ensures,
       count_event_small b.args.draft.now b.args.behaviours b.pre.0,
-      start_small b.args.events c.before.before.count-event.result_of members.count-members.result_of
-          members.before.passives_length_law.result_of,
+      start_small b.args.events c.before.before.count-event.result members.count-members.result
+          members.before.passives_length_law.result,
     )
 
 cast_put_word_2 : tie.Need-overflow-cast-put-word-2

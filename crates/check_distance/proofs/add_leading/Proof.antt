@@ -1,5 +1,5 @@
 -- Each return is its branch, by what the sets share.
-use Rattle.lib_base.proofs.Prelude.{◌∙◌, sym, or_false, arith}
+use Rattle.lib_base.proofs.Prelude.{◌∙◌, sym, or-false, arith}
 use Rattle.check_distance.proofs.add_leading.Statement.{statement}
 use Rattle.check_distance.proofs.add_leading.Tie as tie
 
@@ -10,4 +10,4 @@ add_leading_spec =
     (λ c κs. tt)
     (λ c κs. omega arith)
     (λ c x. rw (sym c.before.before.is-common.ensures ∙ c.before.if1.true) (c.insert.ensures x))
-    (λ c x. rw (sym c.before.is-common.ensures ∙ c.if1.false) (sym (or_false _))))
+    (λ c x. rw (sym c.before.is-common.ensures ∙ c.if1.false) (sym (or-false _))))

@@ -1,5 +1,5 @@
 -- With k in the row both are joined; else the second part is false.
-use Rattle.lib_base.proofs.Prelude.{◌≡◌, refl, ◌∙◌, sym, true, false, or_false, rules}
+use Rattle.lib_base.proofs.Prelude.{◌≡◌, refl, ◌∙◌, sym, true, false, or-false, rules}
 use Rattle.lib_bits.specs.Bits.{bit}
 use Rattle.check_graph.proofs.taken_in.Statement.{statement}
 use Rattle.check_graph.proofs.taken_in.Tie as tie
@@ -13,4 +13,4 @@ taken_in_spec =
     (λ c. let h : bit c.before.before.before.args.row c.before.before.before.args.k ≡ true = sym c.before.before.contains.ensures ∙ c.before.if1.true in
     record { each = λ b. c.union-of.ensures b ∙ rw h refl })
     (λ c. let h : bit c.before.before.args.row c.before.before.args.k ≡ false = sym c.before.contains.ensures ∙ c.if1.false in
-    record { each = λ b. rw h (sym (or_false (bit c.before.before.args.row b))) }))
+    record { each = λ b. rw h (sym (or-false (bit c.before.before.args.row b))) }))

@@ -1,5 +1,5 @@
 -- The branch is the definition's.
-use Rattle.lib_base.proofs.Prelude.{sym, or_false, lt-leb, le-leb, rules}
+use Rattle.lib_base.proofs.Prelude.{sym, or-false, lt-leb, le-leb, rules}
 use Rattle.check_reads.proofs.add_names.Statement.{statement}
 use Rattle.check_reads.proofs.add_names.Tie as tie
 
@@ -10,4 +10,4 @@ add_names_spec =
     (λ c κs. search rules)
     (λ c κs. search rules)
     (λ c j b. rw (le-leb 2 _ c.before.before.if1.true, ← c.before.names_in.ensures j b) (c.union-of.ensures j))
-    (λ c j b. rw (lt-leb 2 _ c.if1.false) (sym (or_false _))))
+    (λ c j b. rw (lt-leb 2 _ c.if1.false) (sym (or-false _))))

@@ -1,5 +1,5 @@
 -- The branch is the definition's.
-use Rattle.lib_base.proofs.Prelude.{◌∙◌, sym, or_false, rules}
+use Rattle.lib_base.proofs.Prelude.{◌∙◌, sym, or-false, rules}
 use Rattle.check_reads.proofs.add_row.Statement.{statement}
 use Rattle.check_reads.proofs.add_row.Tie as tie
 
@@ -10,4 +10,4 @@ add_row_spec =
     (λ c κs. search rules)
     (λ c κs. search rules)
     (λ c j. rw (sym c.before.before.contains.ensures ∙ c.before.if1.true) (c.union-of.ensures j))
-    (λ c j. rw (sym c.before.contains.ensures ∙ c.if1.false) (sym (or_false _))))
+    (λ c j. rw (sym c.before.contains.ensures ∙ c.if1.false) (sym (or-false _))))

@@ -1,5 +1,5 @@
 -- The branch is the definition's.
-use Rattle.lib_base.proofs.Prelude.{sym, or_false, lt-leb, le-leb, rules}
+use Rattle.lib_base.proofs.Prelude.{sym, or-false, lt-leb, le-leb, rules}
 use Rattle.check_reads.proofs.add_writer.Statement.{statement}
 use Rattle.check_reads.proofs.add_writer.Tie as tie
 
@@ -9,4 +9,4 @@ add_writer_spec =
     (tie.spec
     (λ c κs. search rules)
     (λ c h. rw (le-leb 2 _ c.before.if1.true) (c.insert.ensures h))
-    (λ c h. rw (lt-leb 2 _ c.if1.false) (sym (or_false _))))
+    (λ c h. rw (lt-leb 2 _ c.if1.false) (sym (or-false _))))

@@ -12,7 +12,7 @@ decreases-loop rows₀ k n i₀ rows i = n - i
 
 loop_again : tie.Need-loop-preserved invariant-loop decreases-loop
 loop_again c =
-    pass_one c.add_row.result_of c.before.before.before.before.before.loop.invariant (omega arith) (omega arith)
+    pass_one c.add_row.result c.before.before.before.before.before.loop.invariant (omega arith) (omega arith)
     c.add_row.ensures
 
 pub pass_through_spec : {M : Type 1} → statement M

@@ -22,7 +22,7 @@ abbrev entry_at : tie.After-fill-rows invariant-loop decreases-loop → tie.Star
 entry_at c = c.before.before.before.before.before
 
 steps_fit : (c : tie.After-steps-back invariant-loop decreases-loop)
-    → c.steps_back.result_of ≤ (entry_at (filled_at (turn_at c).before)).args.n + 1
+    → c.steps_back.result ≤ (entry_at (filled_at (turn_at c).before)).args.n + 1
 steps_fit c =
     let filled = filled_at (turn_at c).before in
     let p = (entry_at filled).pre.0 in

@@ -12,11 +12,11 @@ put_decimal_spec =
     (λ c. search rules)
     (λ c. search rules)
     (λ c κs.
-    let k : c.before.before.decimal.result_of ≤ 20 = at_most 19 _ c.before.before.before.before.before.args.n (omega arith) c.before.before.decimal.ensures.1.0 in
+    let k : c.before.before.decimal.result ≤ 20 = at_most 19 _ c.before.before.before.before.before.args.n (omega arith) c.before.before.decimal.ensures.1.0 in
     omega (arith, c.before.before.decimal.ensures.0, k))
     (λ c. search rules)
     (λ c.
     let d = c.before.before.before.before.before.decimal in
     let p = c.before.before.print-text.ensures in
-    let k : d.result_of ≤ 20 = at_most 19 _ c.before.before.before.before.before.before.before.before.args.n (omega arith) d.ensures.1.0 in
+    let k : d.result ≤ 20 = at_most 19 _ c.before.before.before.before.before.before.before.before.args.n (omega arith) d.ensures.1.0 in
     (omega (arith, p.1.0, d.ensures.0, k), p.1.1 ∙ ap (λ (l : List ℕ). take c.before.before.before.before.before.before.before.before.args.at c.before.before.before.before.before.before.before.before.args.out.now ++ l) (d.ensures.1.1 ∙ spelled 20 _ _ k d.ensures.1.0))))

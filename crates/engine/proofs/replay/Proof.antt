@@ -28,7 +28,7 @@ read_at c = c.before.before.before.before.before
 
 -- a call is left where the steps end before the last
 one_left : (c : tie.Else1 invariant-loop decreases-loop)
-    → (made_at c.before).past-steps.result_of < (head_at (made_at c.before)).before.call-count.result_of
+    → (made_at c.before).past-steps.result < (head_at (made_at c.before)).before.call-count.result
 one_left c = omega (arith, (made_at c.before).past-steps.ensures.within, c.if1.false)
 
 past_steps_requires : tie.Need-past-steps-requires invariant-loop decreases-loop
@@ -59,7 +59,7 @@ returns c =
 cast_make_call : tie.Need-overflow-cast-make-call invariant-loop decreases-loop
 cast_make_call c =
     let made = made_at (tested_at c.before).before in
-    omega (arith, c.shared-slice-known4.given (made.past-steps.result_of * 6 + 5))
+    omega (arith, c.shared-slice-known4.given (made.past-steps.result * 6 + 5))
 
 loop_less : tie.Need-loop-smaller invariant-loop decreases-loop
 loop_less c =

@@ -1,6 +1,6 @@
 -- `codes_fit` is `codes_fit`: the loop keeps that the first i events decide: `codes_fit t n ≡ codes_fit t i`.
 use Rattle.lib_base.proofs.Prelude.{ℕ, ◌≤◌, ◌<◌, ◌-◌, suc, zero, ◌≡◌, refl, ◌∙◌, sym, true, false, Bool, List, not-true}
-use Rattle.lib_base.proofs.Prelude.{not_false, arith}
+use Rattle.lib_base.proofs.Prelude.{not-false, arith}
 use Rattle.lib_base.specs.Basics.{pick}
 use Rattle.format_layout.specs.Layout.{event_word}
 use Rattle.format_layout.specs.Foreign.{code_fits, codes_fit}
@@ -45,5 +45,5 @@ codes_fit_spec =
     (λ c κs. tt)
     (λ c. fails c.before.before.before.before.before.loop.invariant (omega arith) c.before.before.before.event_word_law.ensures c.before.before.event-word2.ensures c.before.code_fits.ensures (not-true _ c.if1.true))
     (λ c. omega arith)
-    (λ c. turn c.before.before.before.before.before.loop.invariant (omega arith) c.before.before.before.event_word_law.ensures c.before.before.event-word2.ensures c.before.code_fits.ensures (not_false _ c.if1.false))
+    (λ c. turn c.before.before.before.before.before.loop.invariant (omega arith) c.before.before.before.event_word_law.ensures c.before.before.event-word2.ensures c.before.code_fits.ensures (not-false _ c.if1.false))
     (λ c. end c.before.loop.invariant c.loop-test.false))

@@ -23,7 +23,7 @@ returns_2 c =
           at_a.before.before.before.most-tag.ensures at_a.before.before.field-answer.ensures.0
           at_a.a.given.1 f.ensures.0 g.ensures.0,
       (
-        body_read (length at_entry_lem.args.s.now) (length f.result_of.now) at_entry_lem.args.n g.result_of
+        body_read (length at_entry_lem.args.s.now) (length f.result.now) at_entry_lem.args.n g.result
             g.ensures.1.0 (omega (arith, f.ensures.1.1)),
         g.ensures.1.1,
       ),

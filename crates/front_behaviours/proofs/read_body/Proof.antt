@@ -25,7 +25,7 @@ returns_2 c =
     let g = c.before.before.read_ending in (
       body_ends _ _ _ _ _ at_r.before.before.before.before.read-handlers.ensures.0 at_r.r.given.1
           g.ensures.0,
-      ended_body _ _ h.2 h.3 (omega arith) g.result_of g.ensures.1,
+      ended_body _ _ h.2 h.3 (omega arith) g.result g.ensures.1,
     )
 
 pub read_body_spec : {M : Type 1} → statement M

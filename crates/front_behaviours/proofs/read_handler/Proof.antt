@@ -19,8 +19,8 @@ returns_2 c =
     let f = c.before.before.before.before.field-value in (
       handler_taken _ _ _ _ _ at_enum_told.before.before.field-answer.ensures.0
           at_enum_told.enum_told.given.1 f.ensures.0 c.before.before.read-handler-value.ensures.0,
-      body_read (length at_entry_lem.args.s.now) (length f.result_of.now) at_entry_lem.args.n
-          c.before.before.read-handler-value.result_of c.before.before.read-handler-value.ensures.1
+      body_read (length at_entry_lem.args.s.now) (length f.result.now) at_entry_lem.args.n
+          c.before.before.read-handler-value.result c.before.before.read-handler-value.ensures.1
           (omega (arith, f.ensures.1.1)),
     )
 

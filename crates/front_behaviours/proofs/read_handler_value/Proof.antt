@@ -14,7 +14,7 @@ returns_6 c =
     let at_entry_lem = at_if3.before.before.before.before.before.before in (
       rw (← at_read_entry.read-entry.ensures.0) (search code depth 12),
       body_over at_entry_lem.args.v.now
-          at_entry_lem.args.n at_read_entry.read-entry.result_of at_read_entry.read-entry.ensures.1 (omega arith),
+          at_entry_lem.args.n at_read_entry.read-entry.result at_read_entry.read-entry.ensures.1 (omega arith),
     )
 
 pub read_handler_value_spec : {M : Type 1} → statement M

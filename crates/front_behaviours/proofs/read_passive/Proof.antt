@@ -24,7 +24,7 @@ returns_2 c =
     let h = inside read in
     let g = c.before.before.read_ending in (
       passive_ends _ _ _ _ (call_at read).read-expr.ensures.0 read.r.given.1 g.ensures.0,
-      ended_body _ _ h.2 h.3 (omega arith) g.result_of g.ensures.1,
+      ended_body _ _ h.2 h.3 (omega arith) g.result g.ensures.1,
     )
 
 pub read_passive_spec : {M : Type 1} → statement M

@@ -12,7 +12,7 @@ returns_5 c =
     let at_if2 = c.before.before.before.before.before.before.before in
     let at_entry_lem = at_if2.before.before.before.before.before in (
       rw (← c.before.before.read-cells.ensures.0) (search code depth 12),
-      row_over at_entry_lem.args.v.now at_entry_lem.args.n c.before.before.read-cells.result_of
+      row_over at_entry_lem.args.v.now at_entry_lem.args.n c.before.before.read-cells.result
           c.before.before.read-cells.ensures.1 (omega arith),
     )
 

@@ -23,8 +23,8 @@ returns_2 c =
       event_taken _ _ _ at_a.before.before.before.before.least-tag.ensures
           at_a.before.before.before.most-tag.ensures at_a.before.before.field-answer.ensures.0
           at_a.a.given.1 f.ensures.0 c.before.before.read-priority.ensures.0,
-      event_in (length at_entry_lem.args.s.now) (length f.result_of.now) at_entry_lem.args.e
-          c.before.before.read-priority.result_of c.before.before.read-priority.ensures.1
+      event_in (length at_entry_lem.args.s.now) (length f.result.now) at_entry_lem.args.e
+          c.before.before.read-priority.result c.before.before.read-priority.ensures.1
           (omega (arith, f.ensures.1.1)),
     )
 

@@ -18,9 +18,9 @@ get_little_spec =
     let first = second.before.before in
     rw (
       ← first.wide.ensures.0,
-      ← second.wide2.ensures.0,
-      ← third.wide3.ensures.0,
-      ← c.wide4.ensures.0,
+      ← second.wide-2.ensures.0,
+      ← third.wide-3.ensures.0,
+      ← c.wide-4.ensures.0,
     )
-    (swap_little first.wide.result_of second.wide2.result_of third.wide3.result_of c.wide4.result_of
-    first.wide.ensures.1 second.wide2.ensures.1 third.wide3.ensures.1)))
+    (swap_little first.wide.result second.wide-2.result third.wide-3.result c.wide-4.result
+    first.wide.ensures.1 second.wide-2.ensures.1 third.wide-3.ensures.1)))

@@ -11,4 +11,4 @@ put_word_spec =
     (λ c.
     let swapped = c.before.before.before in
     let w = swapped.before.before.before.args.w in
-    rw (c.before.before.put-little.ensures, swapped.swap_bytes.ensures, swap_twice w (search rules))))
+    rw (c.before.before.put_little.ensures, swapped.swap_bytes.ensures, swap_twice w (search rules))))

@@ -84,19 +84,19 @@ module _ (c : tie.After-event-word2) where
   entry = word_at.before.before.before.before
 
   abbrev done : ℕ
-  done = done_at.get-word3.result_of
+  done = done_at.get-word3.result
 
   abbrev start : ℕ
-  start = c.before.event_word_law.result_of + done
+  start = c.before.event_word_law.result + done
 
-  in_table : done < c.event-word2.result_of → start < 4096
+  in_table : done < c.event-word2.result → start < 4096
   in_table h =
       in_code _ _ entry.pre.0 entry.pre.3 word_at.get-word.ensures c.before.before.event-of.ensures
       c.before.event_word_law.ensures c.event-word2.ensures h
 
-  advances : {r : CallResult} → done < c.event-word2.result_of
+  advances : {r : CallResult} → done < c.event-word2.result
       → r ≡ execute_at entry.args.table.now entry.args.round.now start done
-      word_at.get-word.result_of number_at.get-word2.result_of c.event-word2.result_of
+      word_at.get-word.result number_at.get-word2.result c.event-word2.result
       → r ≡ advance_left entry.args.table.now entry.args.round.now
   advances =
       opened _ _ word_at.get-word.ensures number_at.get-word2.ensures done_at.get-word3.ensures

@@ -1,7 +1,7 @@
 -- Each return is one branch of the definition: a law for each, over what was read. What is taken in has one of the
 -- eight players: 24 is no 0.
 use Rattle.lib_base.proofs.Prelude.{ℕ, ◌≤◌, ◌<◌, ◌+◌, ◌*◌, ◌≡◌, ◌∙◌, sym, ap, true, false, Bool, List, leb, lt-leb}
-use Rattle.lib_base.proofs.Prelude.{le-leb, leb-false, not-true, not_false, rules, arith}
+use Rattle.lib_base.proofs.Prelude.{le-leb, leb-false, not-true, not-false, rules, arith}
 use Rattle.lib_base.proofs.Tools.{by_test}
 use Rattle.lib_word.specs.Word.{put}
 use Rattle.spec_language.specs.Refusals as refusals
@@ -85,10 +85,10 @@ module _ (c : tie.Else1) where
   entry = c.before.before.before.before.before
 
   valid : Bounds entry.args.table.now entry.args.round.now
-  valid = c.before.is_ours.ensures.1 (not_false _ c.if1.false)
+  valid = c.before.is_ours.ensures.1 (not-false _ c.if1.false)
 
   inside : {r : CallResult} → r ≡ asked entry arrive_in → r ≡ asked entry arrive_on
-  inside = opened _ _ _ _ c.before.is_ours.ensures.0 (not_false _ c.if1.false)
+  inside = opened _ _ _ _ c.before.is_ours.ensures.0 (not-false _ c.if1.false)
 
 -- where the event is declared
 module _ (c : tie.Else3) where
@@ -112,18 +112,18 @@ module _ (c : tie.After-is-full) where
 
   allowed : {r : CallResult}
       → r ≡ asked (entry valid_at)
-      (λ t l e who. arrive_with l e who true count_at.get-word2.result_of c.is_full.result_of (taken l))
+      (λ t l e who. arrive_with l e who true count_at.get-word2.result c.is_full.result (taken l))
       → r ≡ asked (entry valid_at) arrive_on
   allowed q =
       declared right_at.before.before (with_right _ _ _ _ right_at.before.may-send.ensures
-      (not_false _ right_at.if4.left) count_at.get-word2.ensures
+      (not-false _ right_at.if4.left) count_at.get-word2.ensures
       c.before.get-word3.ensures c.is_full.ensures.0 q)
 
 -- back from the slot written to where there is room
 abbrev room_at : tie.After-put-slot → tie.Else5
 room_at c = c.before.before.before.before.before
 
-has_room : (c : tie.Else5) → (count_at c.before).get-word2.result_of < 64
+has_room : (c : tie.Else5) → (count_at c.before).get-word2.result < 64
 has_room c = c.before.is_full.ensures.1 c.if5.false
 
 returns_3 : tie.Need-returns-3

@@ -1,5 +1,5 @@
 -- Each return is one branch of the definition: a law for each, over what was read.
-use Rattle.lib_base.proofs.Prelude.{ℕ, ◌≤◌, ◌<◌, ◌+◌, ◌≡◌, true, false, Bool, List, lt-leb, le-leb, not-true, not_false}
+use Rattle.lib_base.proofs.Prelude.{ℕ, ◌≤◌, ◌<◌, ◌+◌, ◌≡◌, true, false, Bool, List, lt-leb, le-leb, not-true, not-false}
 use Rattle.lib_base.proofs.Prelude.{rules}
 use Rattle.lib_word.specs.Word.{get}
 use Rattle.spec_language.specs.Refusals as refusals
@@ -58,10 +58,10 @@ module _ (c : tie.Else1) where
   entry = c.before.before.before.before
 
   valid : Bounds entry.args.table.now entry.args.round.now
-  valid = c.before.is_ours.ensures.1 (not_false _ c.if1.false)
+  valid = c.before.is_ours.ensures.1 (not-false _ c.if1.false)
 
   inside : {r : ℕ} → r ≡ asked entry board_in → r ≡ asked entry board_on
-  inside = opened _ _ _ _ c.before.is_ours.ensures.0 (not_false _ c.if1.false)
+  inside = opened _ _ _ _ c.before.is_ours.ensures.0 (not-false _ c.if1.false)
 
 -- where the behaviour is known
 module _ (c : tie.Else3) where
@@ -81,12 +81,12 @@ returns_5 : tie.Need-returns-5
 returns_5 c =
     let right = c.before.before in
     found right.before.before (copied_back _ _ _ _ right.before.may-see.ensures
-    (not_false _ right.if4.false) c.before.copy-back-under-way.ensures c.if5.true)
+    (not-false _ right.if4.false) c.before.copy-back-under-way.ensures c.if5.true)
 
 returns_6 : tie.Need-returns-6
 returns_6 c =
     let right = c.before.before.before in
-    found right.before.before (shown _ _ _ _ right.before.may-see.ensures (not_false _ right.if4.false)
+    found right.before.before (shown _ _ _ _ right.before.may-see.ensures (not-false _ right.if4.false)
     c.before.before.copy-back-under-way.ensures c.before.if5.false c.get-word2.ensures)
 
 pub board_at_spec : {M : Type 1} → statement M

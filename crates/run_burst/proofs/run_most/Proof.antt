@@ -24,7 +24,7 @@ module _ (c : tie.After-smaller) where
   abbrev entry : tie.Start
   entry = position.before.before.before.before.before.before.before.before
 
-  ready : Ready entry.args.table.now entry.args.round.now c.before.before.before.event-word2.result_of position.get-word2.result_of c.smaller.result_of
+  ready : Ready entry.args.table.now entry.args.round.now c.before.before.before.event-word2.result position.get-word2.result c.smaller.result
   ready =
       make_ready entry.pre.0 entry.pre.1 position.before.before.before.before.before.if1.left position.before.before.before.get-word.ensures
       position.before.before.if2.left position.get-word2.ensures left.before.before.event_at_law.ensures left.before.event_word_law.ensures

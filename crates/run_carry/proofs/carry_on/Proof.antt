@@ -1,6 +1,6 @@
 -- The filling leaves the stack's depth, and a stretch that fits lies within 4,096, so that the instructions may run;
 -- each return is one branch of the definition.
-use Rattle.lib_base.proofs.Prelude.{ℕ, ◌≤◌, ◌≡◌, ◌∙◌, sym, true, false, Bool, List, not-true, not_false, rules, arith}
+use Rattle.lib_base.proofs.Prelude.{ℕ, ◌≤◌, ◌≡◌, ◌∙◌, sym, true, false, Bool, List, not-true, not-false, rules, arith}
 use Rattle.lib_word.specs.Word.{get}
 use Rattle.spec_language.specs.Refusals as refusals
 use Rattle.format_layout.specs.Layout.{passives_start, passives_length}
@@ -35,7 +35,7 @@ execute_from_requires c κs =
     let fits = c.before.before in
     let s = shallow _ _ _ _ (fill_at_law fits).fill.ensures
     (fill_at_law fits).before.before.before.before.before.before.requires.1 in
-    let b = code_bound _ _ (sym fits.code_fits.ensures ∙ not_false _ c.before.if1.false) in
+    let b = code_bound _ _ (sym fits.code_fits.ensures ∙ not-false _ c.before.if1.false) in
     search rules
 
 returns : tie.Need-returns
@@ -49,7 +49,7 @@ returns_2 c =
     let fits = c.before.before.before.before.before in
     inside _ _ _ _ (fill_at_law fits).fill.ensures fits.before.before.get-word.ensures
     fits.before.get-word2.ensures fits.code_fits.ensures
-    (not_false _ c.before.before.before.before.if1.false) c.before.before.execute-from.ensures
+    (not-false _ c.before.before.before.before.if1.false) c.before.before.execute-from.ensures
 
 pub carry_on_spec : {M : Type 1} → statement M
 carry_on_spec =

@@ -1,5 +1,5 @@
 -- Each return is one branch of the definition, over what was read.
-use Rattle.lib_base.proofs.Prelude.{ℕ, ◌+◌, ◌≡◌, true, false, Bool, List, not-true, not_false, rules}
+use Rattle.lib_base.proofs.Prelude.{ℕ, ◌+◌, ◌≡◌, true, false, Bool, List, not-true, not-false, rules}
 use Rattle.lib_word.specs.Word.{get}
 use Rattle.run_carry.specs.Carry.{active_in_table, kept_or_fresh, value_for}
 use Rattle.run_carry.proofs.value_for.Statement.{statement}
@@ -27,7 +27,7 @@ value_for_spec =
     (λ c κs. search rules)
     (λ c. not_before _ _ _ _ c.before.is-active.ensures (not-true _ c.if1.true) c.before.before.get-word.ensures)
     (λ c κs. search rules)
-    (λ c. not_now _ _ _ _ c.before.before.before.is-active.ensures (not_false _ c.before.before.if1.false) c.before.is-active2.ensures (not-true _ c.if2.true) c.before.before.before.before.get-word.ensures)
+    (λ c. not_now _ _ _ _ c.before.before.before.is-active.ensures (not-false _ c.before.before.if1.false) c.before.is-active2.ensures (not-true _ c.if2.true) c.before.before.before.before.get-word.ensures)
     (λ c. search rules)
     (λ c κs. search rules)
-    (λ c. in_both _ _ _ _ c.before.before.before.before.is-active.ensures (not_false _ c.before.before.before.if1.false) c.before.before.is-active2.ensures (not_false _ c.before.if2.false) c.get-word2.ensures))
+    (λ c. in_both _ _ _ _ c.before.before.before.before.is-active.ensures (not-false _ c.before.before.before.if1.false) c.before.before.is-active2.ensures (not-false _ c.before.if2.false) c.get-word2.ensures))

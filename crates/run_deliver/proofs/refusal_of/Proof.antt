@@ -1,5 +1,5 @@
 -- Each return is one branch of the definition: a law for each, over what was read.
-use Rattle.lib_base.proofs.Prelude.{◌∙◌, sym, not-true, not_false, rules, arith}
+use Rattle.lib_base.proofs.Prelude.{◌∙◌, sym, not-true, not-false, rules, arith}
 use Rattle.run_deliver.proofs.Laws as laws
 use Rattle.run_deliver.proofs.refusal_of.Statement.{statement}
 use Rattle.run_deliver.proofs.refusal_of.Tie as tie
@@ -42,7 +42,7 @@ returns_6 c =
     let first = third.before.before in (
       rw (← first.before.get-word.ensures, ← right.before.before.before.get-word2.ensures)
           (laws.all_taken _ _ _ _ _ _ first.if1.false third.before.if2.false third.if3.false right.before.before.if4.false
-          (sym right.before.may-send.ensures ∙ not_false _ right.if5.false) c.if6.true),
+          (sym right.before.may-send.ensures ∙ not-false _ right.if5.false) c.if6.true),
       λ z. absurd (omega arith),
     )
 
@@ -54,7 +54,7 @@ returns_7 c =
     let start = first.before.before.before.before in (
       rw (← first.before.get-word.ensures, ← right.before.before.before.get-word2.ensures)
           (laws.no_refusal _ _ _ _ _ _ first.if1.false third.before.if2.false third.if3.false right.before.before.if4.false
-          (sym right.before.may-send.ensures ∙ not_false _ right.if5.false) c.if6.false),
+          (sym right.before.may-send.ensures ∙ not-false _ right.if5.false) c.if6.false),
       λ z. (third.if3.false, omega (arith, start.requires.table.few_events, right.before.before.before.get-word2.ensures, right.before.before.if4.false), c.if6.false),
     )
 

@@ -1,5 +1,5 @@
 -- Each return is one branch of the definition: a law for each, over what was read.
-use Rattle.lib_base.proofs.Prelude.{ℕ, ◌+◌, ◌≡◌, true, false, Bool, ◌≢◌, List, ne_eqb, not-true, not_false, rules}
+use Rattle.lib_base.proofs.Prelude.{ℕ, ◌+◌, ◌≡◌, true, false, Bool, ◌≢◌, List, ne_eqb, not-true, not-false, rules}
 use Rattle.spec_language.specs.Refusals as refusals
 use Rattle.format_layout.specs.Layout.{event_count, waiting_count, running_flag}
 use Rattle.format_layout.specs.Foreign.{ours}
@@ -27,12 +27,12 @@ module _ (t l : List ℕ) {x : Bool} (p : x ≡ ours t l) where
 -- the round is ours, so its bounds hold
 valid : (c : tie.Else1) → Bounds c.before.before.before.before.args.table.now
     c.before.before.before.before.args.round.now
-valid c = c.before.is_ours.ensures.1 (not_false _ c.if1.false)
+valid c = c.before.is_ours.ensures.1 (not-false _ c.if1.false)
 
 returns_2 : tie.Need-returns-2
 returns_2 c =
     let ours = c.before.before.before.before in
-    none_runs _ _ ours.before.is_ours.ensures.0 (not_false _ ours.if1.false)
+    none_runs _ _ ours.before.is_ours.ensures.0 (not-false _ ours.if1.false)
     c.before.before.before.get-word.ensures c.before.before.get-word2.ensures c.before.if2.true
     c.steps-in.ensures
 
@@ -40,7 +40,7 @@ returns_3 : tie.Need-returns-3
 returns_3 c =
     let runs = c.before.before.before in
     let ours = runs.before.before.before in
-    one_runs _ _ ours.before.is_ours.ensures.0 (not_false _ ours.if1.false)
+    one_runs _ _ ours.before.is_ours.ensures.0 (not-false _ ours.if1.false)
     runs.before.before.get-word.ensures runs.before.get-word2.ensures runs.if2.false
     c.before.before.get-word3.ensures c.before.longest-of.ensures.0 c.bound_of.ensures
 

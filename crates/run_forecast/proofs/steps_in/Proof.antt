@@ -31,7 +31,7 @@ abbrev decreases-loop : tie.decreases-loop
 decreases-loop t l n s₀ i₀ s i = n - i
 
 -- what the loop reads
-read : (c : tie.After-event-word invariant-loop decreases-loop) → c.event_word_law.result_of ≤ 4096
+read : (c : tie.After-event-word invariant-loop decreases-loop) → c.event_word_law.result ≤ 4096
 read c =
     short _ _ c.before.before.before.loop.i c.before.before.before.before.before.before.requires.0 (omega arith) c.before.event_at_law.ensures
     c.event_word_law.ensures

@@ -26,7 +26,7 @@ module _ (c : tie.After-get-word2) where
   abbrev runs_at : tie.Else1
   runs_at = c.before.before
 
-  has_room : c.get-word2.result_of ≤ 63
+  has_room : c.get-word2.result ≤ 63
   has_room =
       room _ runs_at.before.get-word.ensures c.get-word2.ensures
       runs_at.before.before.before.before.pre.1 runs_at.if1.left

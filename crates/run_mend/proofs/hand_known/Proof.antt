@@ -1,5 +1,5 @@
 -- Each return is one branch of the definition, over what was read.
-use Rattle.lib_base.proofs.Prelude.{ℕ, ◌≡◌, true, false, Bool, ◌≢◌, List, ltb, ne_eqb, not-true, not_false, rules}
+use Rattle.lib_base.proofs.Prelude.{ℕ, ◌≡◌, true, false, Bool, ◌≢◌, List, ltb, ne_eqb, not-true, not-false, rules}
 use Rattle.format_layout.specs.Layout.{event_count, waiting_count, running_flag, running_event}
 use Rattle.run_mend.specs.Mending.{waiting_known, known_with, hand_known}
 use Rattle.run_mend.proofs.hand_known.Statement.{statement}
@@ -27,6 +27,6 @@ hand_known_spec =
     (λ c κs. search rules)
     (λ c. one_unknown _ _ c.before.before.before.get-word.ensures c.before.before.get-word2.ensures c.before.waiting_known_law.ensures (not-true _ c.if1.true))
     (λ c κs. search rules)
-    (λ c. none_runs _ _ c.before.before.before.before.before.get-word.ensures c.before.before.before.before.get-word2.ensures c.before.before.before.waiting_known_law.ensures (not_false _ c.before.before.if1.false) c.before.get-word3.ensures c.if2.true)
+    (λ c. none_runs _ _ c.before.before.before.before.before.get-word.ensures c.before.before.before.before.get-word2.ensures c.before.before.before.waiting_known_law.ensures (not-false _ c.before.before.if1.false) c.before.get-word3.ensures c.if2.true)
     (λ c κs. search rules)
-    (λ c. one_runs _ _ c.before.before.before.before.before.before.get-word.ensures c.before.before.before.before.before.get-word2.ensures c.before.before.before.before.waiting_known_law.ensures (not_false _ c.before.before.before.if1.false) c.before.before.get-word3.ensures c.before.if2.false c.event_at_law.ensures))
+    (λ c. one_runs _ _ c.before.before.before.before.before.before.get-word.ensures c.before.before.before.before.before.get-word2.ensures c.before.before.before.before.waiting_known_law.ensures (not-false _ c.before.before.before.if1.false) c.before.before.get-word3.ensures c.before.if2.false c.event_at_law.ensures))

@@ -1,7 +1,7 @@
 -- Each return is one branch of the definition: a law for each, over what was read. The values are worked out in bytes
 -- that are 0, a stack of depth 0 among them.
 use Rattle.lib_base.proofs.Prelude.{ℕ, ◌≤◌, ◌≡◌, true, false, Bool, ◌≢◌, List, length, replicate, length-replicate}
-use Rattle.lib_base.proofs.Prelude.{ne_eqb, not-true, not_false, rules, arith}
+use Rattle.lib_base.proofs.Prelude.{ne_eqb, not-true, not-false, rules, arith}
 use Rattle.lib_word.specs.Word.{get, get_at}
 use Rattle.spec_language.specs.Refusals as refusals
 use Rattle.format_layout.specs.Layout.{waiting_count, running_flag, running_number, running_word}
@@ -61,16 +61,16 @@ module _ (c : tie.Else2) where
   entry = ours_at.before.before.before.before.before.before
 
   valid : Bounds entry.args.old.now entry.args.round.now
-  valid = ours_at.before.is_ours.ensures.1 (not_false _ ours_at.if1.left)
+  valid = ours_at.before.is_ours.ensures.1 (not-false _ ours_at.if1.left)
 
   new_valid : TableBounds entry.args.table.now
-  new_valid = c.before.table_fits.ensures.1 (not_false _ c.if2.false)
+  new_valid = c.before.table_fits.ensures.1 (not-false _ c.if2.false)
 
   inside : {r : CallResult} → r ≡ mend_in entry.args.old.now entry.args.table.now entry.args.round.now
       → r ≡ mend_on entry.args.old.now entry.args.table.now entry.args.round.now
   inside =
-      opened _ _ _ ours_at.before.is_ours.ensures.0 (not_false _ ours_at.if1.left)
-      c.before.table_fits.ensures.0 (not_false _ c.if2.false)
+      opened _ _ _ ours_at.before.is_ours.ensures.0 (not-false _ ours_at.if1.left)
+      c.before.table_fits.ensures.0 (not-false _ c.if2.false)
 
 -- where the values are worked out
 module _ (c : tie.Else3) where
@@ -105,7 +105,7 @@ show_requires c κs =
 returns_2 : tie.Need-returns-2
 returns_2 c =
     let ours = c.before.before in
-    foreign_table _ _ _ ours.before.is_ours.ensures.0 (not_false _ ours.if1.false)
+    foreign_table _ _ _ ours.before.is_ours.ensures.0 (not-false _ ours.if1.false)
     c.before.table_fits.ensures.0 (not-true _ c.if2.true)
 
 returns_3 : tie.Need-returns-3
@@ -136,7 +136,7 @@ returns_6 c =
     let worked = worked_at hand in
     inside (good_at worked) (carried _ _ _ worked.before.before.carry-on.ensures worked.if3.left
     consistent.before.copy-back-at.ensures consistent.if4.false known.before.hand_known_law.ensures
-    (not_false _ known.if5.false) hand.back-in-hand.ensures resting.rest.ensures
+    (not-false _ known.if5.false) hand.back-in-hand.ensures resting.rest.ensures
     c.before.before.show.ensures)
 
 pub mend_at_spec : {M : Type 1} → statement M

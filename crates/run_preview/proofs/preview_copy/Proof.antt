@@ -1,7 +1,7 @@
 -- Each return is one branch of the definitions; an arrival that is taken in leaves a sound round, which the steps to
 -- idle ask for.
 use Rattle.lib_base.proofs.Prelude.{ℕ, ◌≤◌, ◌<◌, ◌+◌, ◌≡◌, ◌∙◌, ap, true, false, Bool, ◌≢◌, List, ne_eqb, eq-eqb}
-use Rattle.lib_base.proofs.Prelude.{lt-leb, le-leb, not-true, not_false, rules, arith}
+use Rattle.lib_base.proofs.Prelude.{lt-leb, le-leb, not-true, not-false, rules, arith}
 use Rattle.lib_word.specs.Word.{get}
 use Rattle.spec_language.specs.Rights.{may}
 use Rattle.format_layout.specs.Layout.{viewers_at}
@@ -86,7 +86,7 @@ returns_4 c =
     let at_if1 = at_if3.before.before.before.before in
     seen _ _ _ _ _ at_if1.before.before.before.arrive-at.ensures.0 at_if1.if1.false
     at_if3.before.before.before.get-word.ensures at_if3.before.before.if2.false
-    at_if3.before.may-see.ensures (not_false _ at_if3.if3.false)
+    at_if3.before.may-see.ensures (not-false _ at_if3.if3.false)
     c.before.before.shown-in.ensures
 
 pub preview_copy_spec : {M : Type 1} → statement M

@@ -1,6 +1,6 @@
 -- `start_round` is `start_on`: each branch follows the definition's test; the round written is the fresh one of the
 -- table's values.
-use Rattle.lib_base.proofs.Prelude.{◌∙◌, ap, not-true, not_false, rules}
+use Rattle.lib_base.proofs.Prelude.{◌∙◌, ap, not-true, not-false, rules}
 use Rattle.lib_base.proofs.Pick.{code}
 use Rattle.format_layout.specs.declared.round.Round.{Round}
 use Rattle.format_layout.specs.Fresh.{fresh_of}
@@ -13,7 +13,7 @@ unfolding start_on fresh_bytes
 returns_2 c =
     rw (
       ← c.before.before.table_fits.ensures.0,
-      not_false c.before.before.table_fits.result_of
+      not-false c.before.before.table_fits.result
           c.before.if1.false,
     ) (search code depth 12)
 
@@ -27,7 +27,7 @@ returns_3 c =
     ∙ ap (λ (r : Round). image r fits.before.before.before.args.round.now) made in
     rw (
       ← fits.table_fits.ensures.0,
-      not_false fits.table_fits.result_of values.before.before.if1.false,
+      not-false fits.table_fits.result values.before.before.if1.false,
       written,
     ) (search code depth 12)
 
@@ -36,7 +36,7 @@ unfolding start_on fresh_bytes
 start_round_spec =
     tie.close
     (tie.spec (search rules)
-    (λ c. rw (← c.before.table_fits.ensures.0, not-true c.before.table_fits.result_of c.if1.true))
+    (λ c. rw (← c.before.table_fits.ensures.0, not-true c.before.table_fits.result c.if1.true))
     returns_2
-    (λ c κs. (c.before.before.table_fits.ensures.1 (not_false _ c.before.if1.false)).long)
+    (λ c κs. (c.before.before.table_fits.ensures.1 (not-false _ c.before.if1.false)).long)
     (search rules) (search rules) (search rules) returns_3)

@@ -1,6 +1,6 @@
 -- `is_ours` is `ours`: each branch follows the definition's test. The bounds are then `bounds`.
 use Rattle.lib_base.proofs.Prelude.{ℕ, ◌≤◌, ◌<◌, ◌≡◌, ◌∙◌, sym, true, false, Bool, List, length, le-ltb, lt-ltb}
-use Rattle.lib_base.proofs.Prelude.{not-true, not_false, rules}
+use Rattle.lib_base.proofs.Prelude.{not-true, not-false, rules}
 use Rattle.format_layout.specs.Layout.{event_count, event_word, waiting_count, running_flag, running_word}
 use Rattle.format_layout.specs.Layout.{running_event, position, depth}
 use Rattle.format_layout.specs.Foreign.{table_fits, hand_fits, slots_fit, running_fits, round_with, round_in, round_fits, ours}
@@ -55,7 +55,7 @@ module _ (c : tie.Else1) where
   entry = c.before.before.before.before
 
   table_bounds : TableBounds entry.args.table.now
-  table_bounds = c.before.table_fits.ensures.1 (not_false _ c.if1.false)
+  table_bounds = c.before.table_fits.ensures.1 (not-false _ c.if1.false)
 
 -- and the round is long enough: what is left is told of it
 module _ (c : tie.Else2) where
@@ -67,7 +67,7 @@ module _ (c : tie.Else2) where
 
   inside : {x : Bool} → x ≡ round_in t l → (x ≡ ours t l) × (x ≡ true → Bounds t l)
   inside q =
-      told _ _ (opened _ _ c.before.before.table_fits.ensures.0 (not_false _ c.before.if1.false)
+      told _ _ (opened _ _ c.before.before.table_fits.ensures.0 (not-false _ c.before.if1.false)
       c.if2.false q)
 
 returns_4 : tie.Need-returns-4
@@ -91,7 +91,7 @@ returns_6 c =
     inside long (fits _ _ shallow.before.before.before.before.get-word.ensures
     shallow.before.before.before.get-word2.ensures shallow.before.before.if3.false
     shallow.before.get-word3.ensures shallow.if4.false c.before.before.running_fits_law.ensures
-    (not_false _ c.before.if5.false) c.slots_fit_law.ensures)
+    (not-false _ c.before.if5.false) c.slots_fit_law.ensures)
 
 pub is_ours_spec : {M : Type 1} → statement M
 is_ours_spec =
@@ -99,7 +99,7 @@ is_ours_spec =
     (tie.spec (search rules)
     (λ c. told _ _ (bad_table _ _ c.before.table_fits.ensures.0 (not-true _ c.if1.true)))
     (λ c.
-    told _ _ (short _ _ c.before.before.table_fits.ensures.0 (not_false _ c.before.if1.false)
+    told _ _ (short _ _ c.before.before.table_fits.ensures.0 (not-false _ c.before.if1.false)
     c.if2.true))
     (λ c κs. let h = table_bounds c.before in search rules)
     (search rules)

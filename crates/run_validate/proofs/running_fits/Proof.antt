@@ -1,6 +1,6 @@
 -- `running_fits` is `running_fits` of what is read: each branch follows the definition's test.
 use Rattle.lib_base.proofs.Prelude.{ℕ, ◌≤◌, ◌<◌, ◌*◌, ◌≡◌, true, false, Bool, ◌≢◌, List, ltb, ne_eqb, le-ltb, lt-ltb}
-use Rattle.lib_base.proofs.Prelude.{not-true, not_false, rules, arith}
+use Rattle.lib_base.proofs.Prelude.{not-true, not-false, rules, arith}
 use Rattle.lib_word.specs.Word.{get_at, get}
 use Rattle.format_layout.specs.Layout.{event_of, event_word}
 use Rattle.format_layout.specs.Foreign.{hand_fits, running_fits}
@@ -46,7 +46,7 @@ returns_4 c =
     let at_little = c.before.before.before.before.before in
     runs _ _ _ _ at_little.before.before.before.get-word.ensures at_little.before.before.if1.false
     (search rules) at_little.get-little.ensures c.before.before.before.before.hand_fits_law.ensures
-    (not_false _ c.before.before.before.if3.false) c.get-word2.ensures
+    (not-false _ c.before.before.before.if3.false) c.get-word2.ensures
     c.before.before.event_at_law.ensures c.before.event_word_law.ensures
 
 pub running_fits_spec : {M : Type 1} → statement M

@@ -18,7 +18,7 @@ first_run_requires : tie.Need-first-run-requires
 first_run_requires c κs =
     let at_hint = c.before.before.before.before.before.before in
     let hint = at_hint.hint-of.ensures in
-    (at_hint.before.before.before.if1.false, hint_usable at_hint.hint-of.result_of.params at_hint.hint-of.result_of.count _ _ hint.1 hint.0)
+    (at_hint.before.before.before.if1.false, hint_usable at_hint.hint-of.result.params at_hint.hint-of.result.count _ _ hint.1 hint.0)
 
 pub assemble_at_spec : {M : Type 1} → statement M
 assemble_at_spec =

@@ -20,7 +20,7 @@ loop_again c =
     let at_loop = at_test.before in
     let at_entry_lem = at_loop.before.before in
     walk_on at_entry_lem.args.text.now at_entry_lem.args.place at_loop.loop.line at_loop.loop.column at_loop.loop.i
-    at_line.line_after.result_of c.column-after.result_of at_loop.loop.invariant at_test.loop-test.true (omega (arith, at_entry_lem.requires))
+    at_line.line_after.result c.column-after.result at_loop.loop.invariant at_test.loop-test.true (omega (arith, at_entry_lem.requires))
     at_line.line_after.ensures.0 at_line.line_after.ensures.1 c.column-after.ensures.0 c.column-after.ensures.1
 
 returns : tie.Need-returns invariant-loop decreases-loop

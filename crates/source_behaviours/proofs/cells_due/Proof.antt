@@ -37,7 +37,7 @@ returns_3 c =
     let a = at_entry_lem.args in
     let h = rw at_d.d.given.1 at at_sign_due.sign-due.ensures.0 in
     let g = rw at_d.d.given.1 at at_sign_due.sign-due.ensures.1 in
-    (row_opened a.text.now a.at a.i a.word _ _ c.count_at.result_of (omega (arith, at_if1.if1.false)) h c.count_at.ensures.0, cells_onward _ _ _ _ a.i c.count_at.result_of g.0 g.1 c.count_at.ensures.1)
+    (row_opened a.text.now a.at a.i a.word _ _ c.count_at.result (omega (arith, at_if1.if1.false)) h c.count_at.ensures.0, cells_onward _ _ _ _ a.i c.count_at.result g.0 g.1 c.count_at.ensures.1)
 
 pub cells_due_spec : {M : Type 1} → statement M
 cells_due_spec =

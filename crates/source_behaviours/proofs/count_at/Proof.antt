@@ -89,8 +89,8 @@ returns_5 c =
     let a = at_entry_lem.args in
     let h = rw at_d.d.given.1 at at_number_due.number-due.ensures.0 in
     let g = rw at_d.d.given.1 at at_number_due.number-due.ensures.1 in (
-      count_goes a.text.now a.at a.i _ _ _ h.0 h.1 c.Closed-at.result_of (λ z. omega (arith, at_if1.if1.false)) (λ z. omega (arith, at_if2.if2.false)) (λ z. omega (arith, at_if3.if3.false)) c.Closed-at.ensures.0,
-      closed_fits _ _ _ a.i _ c.Closed-at.result_of (omega arith) (omega (arith, at_if2.if2.false)) (omega (arith, at_if3.if3.false)) c.Closed-at.ensures.1,
+      count_goes a.text.now a.at a.i _ _ _ h.0 h.1 c.Closed-at.result (λ z. omega (arith, at_if1.if1.false)) (λ z. omega (arith, at_if2.if2.false)) (λ z. omega (arith, at_if3.if3.false)) c.Closed-at.ensures.0,
+      closed_fits _ _ _ a.i _ c.Closed-at.result (omega arith) (omega (arith, at_if2.if2.false)) (omega (arith, at_if3.if3.false)) c.Closed-at.ensures.1,
     )
 
 pub count_at_spec : {M : Type 1} → statement M

@@ -17,7 +17,7 @@ returns c =
     let at_if1 = at_passive_at.before.before in
     let at_entry_lem = at_if1.before.before.before.before.before.before in
     let a = at_entry_lem.args in
-    (kind_passive a.text.now (meaning_by a.text.now a.places.now a.cursor.sorted a.meanings.now) a.events.now a.word a.cursor.cells a.cursor.at a.cursor.end a.out.now _ at_passive_at.passive-at.result_of at_if1.if1.true at_passive_at.passive-at.ensures.0, at_passive_at.passive-at.ensures.1)
+    (kind_passive a.text.now (meaning_by a.text.now a.places.now a.cursor.sorted a.meanings.now) a.events.now a.word a.cursor.cells a.cursor.at a.cursor.end a.out.now _ at_passive_at.passive-at.result at_if1.if1.true at_passive_at.passive-at.ensures.0, at_passive_at.passive-at.ensures.1)
 
 returns_2 : tie.Need-returns-2
 returns_2 c =
@@ -25,7 +25,7 @@ returns_2 c =
     let at_if1 = at_state_at.before.before in
     let at_entry_lem = at_if1.before.before.before.before.before.before in
     let a = at_entry_lem.args in
-    (kind_state a.text.now (meaning_by a.text.now a.places.now a.cursor.sorted a.meanings.now) a.events.now a.word a.cursor.cells a.cursor.at a.cursor.end a.out.now _ at_state_at.state_at.result_of at_if1.if1.false at_state_at.state_at.ensures.0, at_state_at.state_at.ensures.1)
+    (kind_state a.text.now (meaning_by a.text.now a.places.now a.cursor.sorted a.meanings.now) a.events.now a.word a.cursor.cells a.cursor.at a.cursor.end a.out.now _ at_state_at.state_at.result at_if1.if1.false at_state_at.state_at.ensures.0, at_state_at.state_at.ensures.1)
 
 pub kind_at_spec : {M : Type 1} → statement M
 kind_at_spec =

@@ -29,7 +29,7 @@ returns_2 c =
     let a = at_entry_lem.args in
     let h = rw at_d.d.given.1 at at_sign_due.sign-due.ensures.0 in
     let g = rw at_d.d.given.1 at at_sign_due.sign-due.ensures.1 in
-    (start_found a.text.now a.at _ _ c.value_at_law.result_of h c.value_at_law.ensures.0, start_within _ _ _ _ c.value_at_law.result_of g.0 g.1 c.value_at_law.ensures.1)
+    (start_found a.text.now a.at _ _ c.value_at_law.result h c.value_at_law.ensures.0, start_within _ _ _ _ c.value_at_law.result g.0 g.1 c.value_at_law.ensures.1)
 
 pub start_due_spec : {M : Type 1} → statement M
 start_due_spec =

@@ -65,7 +65,7 @@ returns_3 c =
     let h = rw at_s.s.given.1 at at_seen_at.seen_at.ensures.0 in
     let i = rw at_s.s.given.1 at at_seen_at.seen_at.ensures.1 in
     let with = at_state_with.state-with in
-    (state_read a.text.now (meaning_by a.text.now a.places.now a.cursor.sorted a.meanings.now) a.events.now a.cursor.cells a.cursor.at a.cursor.end a.out.now _ _ _ d _ _ _ with.result_of h with.ensures.0, (state_within _ _ _ _ _ with.result_of g.0 i.0 with.ensures.1.0, with.ensures.1.1))
+    (state_read a.text.now (meaning_by a.text.now a.places.now a.cursor.sorted a.meanings.now) a.events.now a.cursor.cells a.cursor.at a.cursor.end a.out.now _ _ _ d _ _ _ with.result h with.ensures.0, (state_within _ _ _ _ _ with.result g.0 i.0 with.ensures.1.0, with.ensures.1.1))
 
 pub state_at_spec : {M : Type 1} → statement M
 state_at_spec =

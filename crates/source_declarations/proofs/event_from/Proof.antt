@@ -47,9 +47,9 @@ returns_4 c =
     let at_found = at_among.before.before in
     let at_name = at_found.before.before in
     let a = at_name.before.before.before.before.args in (
-      event_new a.text.now a.events.now a.p a.at a.count _ _ _ _ _ c.ranked-at.result_of at_name.before.if1.false at_name.name-due.ensures.0
+      event_new a.text.now a.events.now a.p a.at a.count _ _ _ _ _ c.ranked-at.result at_name.before.if1.false at_name.name-due.ensures.0
           at_found.name.given.1 at_among.is_among.ensures c.before.if2.false c.ranked-at.ensures.0,
-      event_later (length a.text.now) a.at _ _ _ _ c.ranked-at.result_of at_name.name-due.ensures.1 at_found.name.given.1
+      event_later (length a.text.now) a.at _ _ _ _ c.ranked-at.result at_name.name-due.ensures.1 at_found.name.given.1
           c.ranked-at.ensures.1,
     )
 

@@ -23,8 +23,8 @@ returns_2 c =
     let at_from = c.before.before in
     let at_sign = at_from.before.before in
     let at_entry_lem = at_sign.before.before in (
-      from_said at_entry_lem.args.text.now at_entry_lem.args.at _ _ _ _ c.players-at.result_of at_sign.sign-due.ensures.0 at_from.from.given.1 c.players-at.ensures.0,
-      rights_later (length at_entry_lem.args.text.now) at_entry_lem.args.at _ _ _ _ c.players-at.result_of at_sign.sign-due.ensures.1
+      from_said at_entry_lem.args.text.now at_entry_lem.args.at _ _ _ _ c.players-at.result at_sign.sign-due.ensures.0 at_from.from.given.1 c.players-at.ensures.0,
+      rights_later (length at_entry_lem.args.text.now) at_entry_lem.args.at _ _ _ _ c.players-at.result at_sign.sign-due.ensures.1
           at_from.from.given.1 c.players-at.ensures.1,
     )
 

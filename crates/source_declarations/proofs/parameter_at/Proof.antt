@@ -48,9 +48,9 @@ returns_4 c =
     let at_found = at_among.before.before in
     let at_name = at_found.before.before in
     let a = at_name.before.before.before.before.args in (
-      parameter_new a.text.now a.names.now a.p a.at a.count _ _ _ _ _ c.default-at.result_of at_name.before.if1.false at_name.name-due.ensures.0
+      parameter_new a.text.now a.names.now a.p a.at a.count _ _ _ _ _ c.default-at.result at_name.before.if1.false at_name.name-due.ensures.0
           at_found.name.given.1 at_among.is_among.ensures c.before.if2.false c.default-at.ensures.0,
-      parameter_later (length a.text.now) a.at _ _ _ _ c.default-at.result_of at_name.name-due.ensures.1 at_found.name.given.1
+      parameter_later (length a.text.now) a.at _ _ _ _ c.default-at.result at_name.name-due.ensures.1 at_found.name.given.1
           c.default-at.ensures.1,
     )
 

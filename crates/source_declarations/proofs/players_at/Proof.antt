@@ -30,7 +30,7 @@ returns_2 : tie.Need-returns-2
 returns_2 c =
     let at_token = c.before.before.before in
     let at_entry_lem = at_token.before.before in (
-      players_numbered at_entry_lem.args.text.now at_entry_lem.args.at _ _ _ _ c.more_players_law.result_of at_token.token-at.ensures.0 c.before.enum_told.given.1
+      players_numbered at_entry_lem.args.text.now at_entry_lem.args.at _ _ _ _ c.more_players_law.result at_token.token-at.ensures.0 c.before.enum_told.given.1
           c.more_players_law.ensures.0,
       c.more_players_law.ensures.1,
     )

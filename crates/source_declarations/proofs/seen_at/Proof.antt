@@ -42,9 +42,9 @@ returns_3 c =
     let at_seen = at_sign2.before.before in
     let at_sign = at_seen.before.before in
     let at_entry_lem = at_sign.before.before in (
-      seen_said at_entry_lem.args.text.now at_entry_lem.args.at _ _ _ _ _ _ _ _ c.players-at.result_of at_sign.sign-due.ensures.0 at_seen.seen.given.1
+      seen_said at_entry_lem.args.text.now at_entry_lem.args.at _ _ _ _ _ _ _ _ c.players-at.result at_sign.sign-due.ensures.0 at_seen.seen.given.1
           at_sign2.sign-due2.ensures.0 at_by.by.given.1 c.players-at.ensures.0,
-      seen_later (length at_entry_lem.args.text.now) at_entry_lem.args.at _ _ _ _ _ _ _ _ c.players-at.result_of at_sign.sign-due.ensures.1
+      seen_later (length at_entry_lem.args.text.now) at_entry_lem.args.at _ _ _ _ _ _ _ _ c.players-at.result at_sign.sign-due.ensures.1
           at_seen.seen.given.1 at_sign2.sign-due2.ensures.1 at_by.by.given.1 c.players-at.ensures.1,
     )
 

@@ -18,8 +18,8 @@ returns c =
     let s = args.s.now in
     wrote_as
     (wrote_on at_put_value.write-value.ensures (wrote_on at_put_viewers.write-viewers.ensures at_put_handlers.put-handlers.ensures))
-    (active_parts (length s) (drop args.first s) (drop args.at s) (drop at_Onward.onward.result_of s) (drop at_onward2.onward2.result_of s)
-    (drop at_past_fields.past-fields.result_of s) at_Onward.onward.ensures.0 at_word_from.word-from.ensures.0
+    (active_parts (length s) (drop args.first s) (drop args.at s) (drop at_Onward.onward.result s) (drop at_onward2.onward2.result s)
+    (drop at_past_fields.past-fields.result s) at_Onward.onward.ensures.0 at_word_from.word-from.ensures.0
     at_onward2.onward2.ensures.0 at_past_fields.past-fields.ensures.0)
 
 same_length : tie.Need-same-length

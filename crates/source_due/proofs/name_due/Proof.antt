@@ -8,13 +8,13 @@ fault_word_requires : tie.Need-fault-word-requires
 fault_word_requires c κs =
     let at_token = c.before.before in
     let at_entry_lem = at_token.before.before in
-    let w = place_within _ _ at_token.token-at.result_of at_token.token-at.ensures.1 in
+    let w = place_within _ _ at_token.token-at.result at_token.token-at.ensures.1 in
     (omega arith, omega (arith, c.place_of.ensures, w, at_entry_lem.requires.0))
 
 returns : tie.Need-returns
 returns c =
     let at_token = c.before.before.before in
-    name_other _ _ at_token.token-at.result_of _ _ c.before.before.match.keys2 at_token.token-at.ensures.0 c.before.place_of.ensures c.fault-word.ensures
+    name_other _ _ at_token.token-at.result _ _ c.before.before.match.keys2 at_token.token-at.ensures.0 c.before.place_of.ensures c.fault-word.ensures
 
 returns_2 : tie.Need-returns-2
 returns_2 c =

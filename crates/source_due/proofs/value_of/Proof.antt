@@ -7,7 +7,7 @@ use Rattle.source_due.proofs.value_of.Tie as tie
 returns : tie.Need-returns
 returns c =
     let at_sign = c.before.before.before in
-    plain_value _ _ _ c.number_of.result_of _ c.before.enum_told.given.1 at_sign.sign_of.ensures.0 c.number_of.ensures.0 c.number_of.ensures.1
+    plain_value _ _ _ c.number_of.result _ c.before.enum_told.given.1 at_sign.sign_of.ensures.0 c.number_of.ensures.0 c.number_of.ensures.1
 
 number_due_requires : tie.Need-number-due-requires
 number_due_requires c κs =
@@ -20,7 +20,7 @@ returns_2 c =
     let at_number = c.before.before in
     let at_sign = at_number.before.before.before.before in
     minus_bad _ _ _ _ _ _ at_number.before.before.minus.given.1 at_sign.sign_of.ensures.0 at_sign.sign_of.ensures.1
-    at_number.number-due.result_of _ c.enum-told2.given.1 at_number.number-due.ensures.0 at_number.number-due.ensures.1
+    at_number.number-due.result _ c.enum-told2.given.1 at_number.number-due.ensures.0 at_number.number-due.ensures.1
 
 negated_requires : tie.Need-negated-requires
 negated_requires c κs =

@@ -207,7 +207,7 @@ choice_close_requires t c κs =
     let three = at_three.argument3.ensures in
     let g₃ = gone_further _ _ _ _ _ at_entry_lem.args.cursor.at at_entry_lem.args.cursor.end _ _ _ _ three g₂ in
     let k₃ = kept_after _ _ _ _ _ _ _ _ _ three in
-    let h = ended_headable _ _ _ _ at_three.argument3.result_of at_ended.ended.result_of g₃ at_ended.ended.ensures P.0.2 (omega (arith, P.1.1)) P.0.0 in
+    let h = ended_headable _ _ _ _ at_three.argument3.result at_ended.ended.result g₃ at_ended.ended.ensures P.0.2 (omega (arith, P.1.1)) P.0.0 in
     (h, omega (arith, k₁, k₂, k₃, P.0.5))
 
 choice_same_length : (t : ℕ) → choice-lts.Need-same-length (claims_choice t) (choice_at t) choice.Post
@@ -231,7 +231,7 @@ choice_returns t c =
     let three = at_three.argument3.ensures in
     let g₃ = gone_further _ _ _ _ _ at_entry_lem.args.cursor.at at_entry_lem.args.cursor.end _ _ _ _ three g₂ in
     let k₃ = kept_after _ _ _ _ _ _ _ _ _ three in
-    choice_read _ _ _ _ _ _ _ _ _ at_three.argument3.result_of at_ended.ended.result_of at_ended.ended.ensures _ three _ two _ _ _ one g₃ P.1.0
+    choice_read _ _ _ _ _ _ _ _ _ at_three.argument3.result at_ended.ended.result at_ended.ended.ensures _ three _ two _ _ _ one g₃ P.1.0
     at_close.close.ensures.0 at_close.close.ensures.1 at_close.close.auto.1.1.1.1.1.0
 
 abbrev phrase_Inv_loop : phrase-lts.invariant-loop
@@ -512,7 +512,7 @@ primary_close_requires t c κs =
     let sign_is = at_if1.if1.true in
     let b = st.further (omega arith) (omega arith) in
     let x = at_phrase.phrase.ensures in (
-      not_headable (length a.text.now) a.cursor.room a.cursor.at at_standing.sign-before.result_of.next a.cursor.end at_phrase.phrase.result_of x.within b P.0.2 P.1.1 P.0.0,
+      not_headable (length a.text.now) a.cursor.room a.cursor.at at_standing.sign-before.result.next a.cursor.end at_phrase.phrase.result x.within b P.0.2 P.1.1 P.0.0,
       omega (arith, x.kept, P.0.5),
     )
 

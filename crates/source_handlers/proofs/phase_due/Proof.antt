@@ -8,7 +8,7 @@ returns : tie.Need-returns
 returns c =
     let e = c.before.enum_told.given.1 in
     let h = rw e at c.before.before.before.sign-due.ensures.0 in
-    (phase_now _ _ _ c.colon-due.result_of h c.colon-due.ensures.0, c.colon-due.ensures.1)
+    (phase_now _ _ _ c.colon-due.result h c.colon-due.ensures.0, c.colon-due.ensures.1)
 
 colon_due_requires_2 : tie.Need-colon-due-requires-2
 colon_due_requires_2 c κs =
@@ -21,7 +21,7 @@ returns_2 c =
     let b = c.before.before.before.before in
     let h = rw e at b.sign-due.ensures.0 in
     let g = rw e at b.sign-due.ensures.1 in
-    (phase_later _ _ _ _ c.colon-due2.result_of h c.colon-due2.ensures.0, phase_onward _ _ _ _ c.colon-due2.result_of g.0 g.1 c.colon-due2.ensures.1)
+    (phase_later _ _ _ _ c.colon-due2.result h c.colon-due2.ensures.0, phase_onward _ _ _ _ c.colon-due2.result g.0 g.1 c.colon-due2.ensures.1)
 
 pub phase_due_spec : {M : Type 1} → statement M
 phase_due_spec =

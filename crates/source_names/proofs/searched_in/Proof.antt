@@ -8,13 +8,13 @@ returns : tie.Need-returns
 unfolding searched_in
 returns c =
     let at_sought = c.before in
-    rw (← at_sought.sought.ensures, lt-ltb at_sought.sought.result_of at_sought.before.before.before.before.args.sorted c.if1.true)
+    rw (← at_sought.sought.ensures, lt-ltb at_sought.sought.result at_sought.before.before.before.before.args.sorted c.if1.true)
 
 returns_2 : tie.Need-returns-2
 unfolding searched_in
 returns_2 c =
     let at_sought = c.before.before.before in
-    rw (← at_sought.sought.ensures, le-ltb at_sought.sought.result_of at_sought.before.before.before.before.args.sorted c.before.before.if1.false, c.index_of.ensures.0)
+    rw (← at_sought.sought.ensures, le-ltb at_sought.sought.result at_sought.before.before.before.before.args.sorted c.before.before.if1.false, c.index_of.ensures.0)
 
 pub searched_in_spec : {M : Type 1} → statement M
 searched_in_spec =

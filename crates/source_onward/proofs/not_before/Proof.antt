@@ -18,4 +18,4 @@ not_before_spec =
     before_not _ _ start.requires.1.0 start.requires.1.1 (λ z. c.if1.true (at_byte.byte_at.ensures ∙ z)))
     (λ c κs. let start = c.before.before.before in (start.requires.1.0, not_in_word start.args.text.now start.args.at start.requires.1.1))
     (λ c κs. search rules)
-    (λ c. before_sign _ _ _ _ _ (stands _ _ c.before.mark-at.result_of _ _ _ c.before.mark-at.ensures.0 c.before.mark-at.ensures.1 c.standing-of.ensures)))
+    (λ c. before_sign _ _ _ _ _ (stands _ _ c.before.mark-at.result _ _ _ c.before.mark-at.ensures.0 c.before.mark-at.ensures.1 c.standing-of.ensures)))

@@ -30,8 +30,8 @@ sign_ahead_spec =
     let at_if = c.before.before.before in
     (at_if.before.pass-over2.ensures.begun (omega (arith, at_if.if2.false)), sym c.before.in-word.ensures ∙ c.if3.false))
     (λ c κs. search rules)
-    (λ c κs. (stands _ _ c.before.mark-at.result_of _ _ _ c.before.mark-at.ensures.0 c.before.mark-at.ensures.1 c.standing-of.ensures).behind)
+    (λ c κs. (stands _ _ c.before.mark-at.result _ _ _ c.before.mark-at.ensures.0 c.before.mark-at.ensures.1 c.standing-of.ensures).behind)
     (λ c.
     let at_mark = c.before.before in
     ahead_sign _ _ _ at_mark.before.before.before.before.before.pass-over2.ensures _ _ _ _
-    (stands _ _ at_mark.mark-at.result_of _ _ _ at_mark.mark-at.ensures.0 at_mark.mark-at.ensures.1 c.before.standing-of.ensures) c.pass-over3.ensures))
+    (stands _ _ at_mark.mark-at.result _ _ _ at_mark.mark-at.ensures.0 at_mark.mark-at.ensures.1 c.before.standing-of.ensures) c.pass-over3.ensures))

@@ -15,4 +15,4 @@ bracket_at_spec =
     let at_byte = c.before.before in
     bracket_none _ _ _ at_byte.before.pass-over.ensures _ (λ z. c.before.if1.true (at_byte.byte_at.ensures ∙ z)) (omega (arith, c.fault-word.ensures)))
     (λ c κs. let at_pass = c.before.before in (at_pass.before.before.requires.0, (at_pass.pass-over.ensures.within, (omega arith, omega arith))))
-    (λ c. bracket_passed _ _ _ c.before.before.before.pass-over.ensures c.sign-due.result_of c.sign-due.ensures.0 c.sign-due.ensures.1))
+    (λ c. bracket_passed _ _ _ c.before.before.before.pass-over.ensures c.sign-due.result c.sign-due.ensures.0 c.sign-due.ensures.1))

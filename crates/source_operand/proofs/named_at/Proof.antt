@@ -12,7 +12,7 @@ returns c =
     let at_sought = at_told.before.before in
     let at_meaning = at_sought.before in
     let at_entry_lem = at_meaning.before.before.before.before.before in
-    let h = name_read _ _ _ _ _ _ _ _ at_entry_lem.requires.1 _ _ at_leaf.name-leaf.result_of _ _ at_sought.bracket-at.ensures.0 at_told.enum_told.given.1
+    let h = name_read _ _ _ _ _ _ _ _ at_entry_lem.requires.1 _ _ at_leaf.name-leaf.result _ _ at_sought.bracket-at.ensures.0 at_told.enum_told.given.1
     (rw at_meaning.meaning-of.ensures.0 at at_leaf.name-leaf.ensures.0) at_put.put-leaf.ensures.0 at_put.put-leaf.ensures.1 in
     (h.0, (h.1.0, (h.1.1, at_put.put-leaf.auto.1.1.0)))
 
@@ -49,7 +49,7 @@ returns_2 c =
     let at_entry_lem = at_meaning.before.before.before.before.before in
     let f = rw at_Bracket.bracket.given.1 at at_sought.bracket-at.ensures.1 in
     let g = rw at_cell.r.given.1 at at_number.cell-number.ensures.1 in
-    let h = cell_read _ _ _ _ _ _ _ _ at_entry_lem.requires.1 _ _ _ _ at_sought.bracket-at.ensures.0 at_Bracket.bracket.given.1 _ _ _ _ at_leaf.cell-leaf.result_of _ _
+    let h = cell_read _ _ _ _ _ _ _ _ at_entry_lem.requires.1 _ _ _ _ at_sought.bracket-at.ensures.0 at_Bracket.bracket.given.1 _ _ _ _ at_leaf.cell-leaf.result _ _
     at_number.cell-number.ensures.0 at_cell.r.given.1 (omega arith)
     (rw at_meaning.meaning-of.ensures.0 at at_leaf.cell-leaf.ensures.0) at_put.put-leaf2.ensures.0 at_put.put-leaf2.ensures.1 in
     (h.0, (h.1.0, (h.1.1, at_put.put-leaf2.auto.1.1.0)))

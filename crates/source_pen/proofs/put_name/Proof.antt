@@ -18,7 +18,7 @@ returns c =
     let at_entry_lem = at_put_digits.before.before.before in
     let k = at_put_digits.put-digits.ensures in
     let text = at_put_digits.put-digits.new.1.0 in
-    let r = at_put_digits.put-digits.result_of in
+    let r = at_put_digits.put-digits.result in
     let letter = at_entry_lem.args.letter in
     let named = set text (r - 1) letter in (
       apart_name (letter ∷ digits at_entry_lem.args.i) (part_name text r letter at_entry_lem.args.i k.1.1 k.1.0.0 k.1.0.1 k.0)

@@ -15,7 +15,7 @@ returns c =
     let n = at_put_digits.before.before.before.args.n in
     let k = at_put_digits.put-digits.ensures in
     let text = at_put_digits.put-digits.new.1.0 in
-    let r = at_put_digits.put-digits.result_of in (
+    let r = at_put_digits.put-digits.result in (
       apart_number n (part_digits text r n k.1.1 k.0) at_put_apart.put-apart.ensures,
       apart_short (take (11 - r) (drop r text)) at_put_apart.put-apart.ensures (part_short text r k.1.1),
     )

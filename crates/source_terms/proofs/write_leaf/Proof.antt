@@ -19,16 +19,16 @@ cast_put_cell c =
     let at_byte_from2 = c.before.before.before in
     let at_byte_from = at_byte_from2.before.before in
     let at_entry_lem = at_byte_from.before.before.before in
-    let h : at_byte_from2.byte-from2.result_of < 256 = search rules in
-    omega (arith, head_below at_entry_lem.requires.0.2 at_byte_from2.byte-from2.result_of h)
+    let h : at_byte_from2.byte-from2.result < 256 = search rules in
+    omega (arith, head_below at_entry_lem.requires.0.2 at_byte_from2.byte-from2.result h)
 
 put_cell_requires : tie.Need-put-cell-requires
 put_cell_requires c κs =
     let at_byte_from2 = c.before.before.before in
     let at_byte_from = at_byte_from2.before.before in
     let at_entry_lem = at_byte_from.before.before.before in
-    let h : at_byte_from2.byte-from2.result_of < 256 = search rules in
-    (at_entry_lem.requires.1, (head_below at_entry_lem.requires.0.2 at_byte_from2.byte-from2.result_of h, h))
+    let h : at_byte_from2.byte-from2.result < 256 = search rules in
+    (at_entry_lem.requires.1, (head_below at_entry_lem.requires.0.2 at_byte_from2.byte-from2.result h, h))
 
 returns_2 : tie.Need-returns-2
 returns_2 c =
@@ -38,7 +38,7 @@ returns_2 c =
     let at_if1 = at_byte_from2.before in
     let at_byte_from = at_if1.before in
     let at_entry_lem = at_byte_from.before.before.before in
-    let i = at_byte_from2.byte-from2.result_of in
+    let i = at_byte_from2.byte-from2.result in
     let h : i < 256 = search rules in
     rw (← at_byte_from.byte-from.ensures, ne_eqb _ 16 at_if1.if1.false, eq-eqb _ 17 at_if2.if2.true, ← at_byte_from2.byte-from2.ensures, ← at_entry_lem.requires.0.2.each i h)
     at_put_cell.put-cell.ensures

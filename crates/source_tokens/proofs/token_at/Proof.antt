@@ -10,8 +10,8 @@ token_of_requires c κs = c.before.pass-over.ensures.begun c.if1.true
 returns : tie.Need-returns
 returns c =
     let passed = c.before.before.pass-over.ensures in (
-      moved_at _ _ _ c.token-of.result_of passed c.token-of.ensures.0,
-      moved_within _ _ _ c.token-of.result_of passed c.token-of.ensures.1,
+      moved_at _ _ _ c.token-of.result passed c.token-of.ensures.0,
+      moved_within _ _ _ c.token-of.result passed c.token-of.ensures.1,
     )
 
 returns_2 : tie.Need-returns-2

@@ -1,5 +1,5 @@
 -- The loop passes the bytes of a word.
-use Rattle.lib_base.proofs.Prelude.{◌-◌, ◌∙◌, sym, length, not-true, not_false, rules, arith}
+use Rattle.lib_base.proofs.Prelude.{◌-◌, ◌∙◌, sym, length, not-true, not-false, rules, arith}
 use Rattle.source_language.specs.Tokens.{in_word}
 use Rattle.source_tokens.proofs.Runs.{RunSoFar, run_start, run_turn, run_stop, run_end}
 use Rattle.source_tokens.proofs.word_end.Statement.{statement}
@@ -22,7 +22,7 @@ returns c =
 loop_again : tie.Need-loop-preserved invariant-loop decreases-loop
 loop_again c =
     let at_loop_test = c.before.before.before in
-    run_turn in_word _ at_loop_test.before.loop.invariant at_loop_test.loop-test.true (sym c.before.in-word.ensures ∙ not_false _ c.if1.false)
+    run_turn in_word _ at_loop_test.before.loop.invariant at_loop_test.loop-test.true (sym c.before.in-word.ensures ∙ not-false _ c.if1.false)
 
 returns_2 : tie.Need-returns-2 invariant-loop decreases-loop
 returns_2 c = run_end in_word _ c.before.loop.invariant c.loop-test.false

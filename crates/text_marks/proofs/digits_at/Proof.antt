@@ -1,5 +1,5 @@
 -- The loop takes digits as `decimal_value` does, the number as far as it counts.
-use Rattle.lib_base.proofs.Prelude.{◌-◌, ◌∙◌, sym, length, not-true, not_false, rules, arith}
+use Rattle.lib_base.proofs.Prelude.{◌-◌, ◌∙◌, sym, length, not-true, not-false, rules, arith}
 use Rattle.text_marks.proofs.Decimals.{decimal_bounds, DigitsSoFar, digits_start, digits_most, digits_turn, digits_stop, digits_end}
 use Rattle.text_marks.proofs.digits_at.Statement.{statement}
 use Rattle.text_marks.proofs.digits_at.Tie as tie
@@ -20,7 +20,7 @@ returns c =
     (sym c.before.is_digit.ensures ∙ not-true _ c.if1.true)
 
 sub_with_digit : tie.Need-overflow-sub-with-digit invariant-loop decreases-loop
-sub_with_digit c = omega (arith, decimal_bounds _ (sym c.before.is_digit.ensures ∙ not_false _ c.if1.false))
+sub_with_digit c = omega (arith, decimal_bounds _ (sym c.before.is_digit.ensures ∙ not-false _ c.if1.false))
 
 with_digit_requires : tie.Need-with-digit-requires invariant-loop decreases-loop
 with_digit_requires c κs =
@@ -32,7 +32,7 @@ loop_again c =
     let at_digit = c.before.before in
     let at_loop_test = at_digit.before.before in
     digits_turn _ _ at_loop_test.before.loop.invariant _ at_loop_test.loop-test.true
-    (sym at_digit.is_digit.ensures ∙ not_false _ c.before.if1.false) c.with-digit.ensures
+    (sym at_digit.is_digit.ensures ∙ not-false _ c.before.if1.false) c.with-digit.ensures
 
 returns_2 : tie.Need-returns-2 invariant-loop decreases-loop
 returns_2 c = digits_end _ _ c.before.loop.invariant c.loop-test.false

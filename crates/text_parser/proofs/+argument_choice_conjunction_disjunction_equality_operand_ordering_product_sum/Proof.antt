@@ -245,8 +245,8 @@ argument_returns_3 t c =
     let at_r = at_mark_at.before.before in
     let at_entry_lem = at_r.before.before.before in (
       argument_read at_entry_lem.args.m at_entry_lem.args.ts.now at_entry_lem.args.out.now
-          at_disjunction.disjunction.new.1.1.0 at_entry_lem.args.r _ _ _ at_disjunction.disjunction.result_of
-          c.under.result_of at_r.r.given.1 at_entry_lem.requires.1.1.0
+          at_disjunction.disjunction.new.1.1.0 at_entry_lem.args.r _ _ _ at_disjunction.disjunction.result
+          c.under.result at_r.r.given.1 at_entry_lem.requires.1.1.0
           (sym at_mark_at.mark-at.ensures.0 ∙ at_if1.if1.false) at_disjunction.disjunction.ensures.0
           at_disjunction.disjunction.ensures.1.0 c.under.ensures,
       at_disjunction.disjunction.ensures.1.1,
@@ -267,10 +267,10 @@ choice_argument_requires_2 t c κs =
     let at_entry_lem = at_argument.before.before.before in
     let l = argued_left 1 at_entry_lem.args.ts.now at_entry_lem.args.out.now
     at_argument.argument.new.1.1.1.0 (Done (at_entry_lem.args.at + 1) at_entry_lem.args.n 0)
-    at_argument.argument.result_of at_argument.argument.ensures.0 in
+    at_argument.argument.result at_argument.argument.ensures.0 in
     let i = argued_in 1 at_entry_lem.args.ts.now at_entry_lem.args.out.now
     at_argument.argument.new.1.1.1.0 (Done (at_entry_lem.args.at + 1) at_entry_lem.args.n 0)
-    at_argument.argument.result_of (omega arith) at_argument.argument.ensures.0 in (
+    at_argument.argument.result (omega arith) at_argument.argument.ensures.0 in (
       omega (arith, at_entry_lem.requires.0),
       (
         i,
@@ -288,15 +288,15 @@ choice_argument_requires_3 t c κs =
     let at_entry_lem = at_argument.before.before.before in
     let l = argued_left 1 at_entry_lem.args.ts.now at_entry_lem.args.out.now
     at_argument.argument.new.1.1.1.0 (Done (at_entry_lem.args.at + 1) at_entry_lem.args.n 0)
-    at_argument.argument.result_of at_argument.argument.ensures.0 in
+    at_argument.argument.result at_argument.argument.ensures.0 in
     let i = argued_in 1 at_entry_lem.args.ts.now at_entry_lem.args.out.now
     at_argument.argument.new.1.1.1.0 (Done (at_entry_lem.args.at + 1) at_entry_lem.args.n 0)
-    at_argument.argument.result_of (omega arith) at_argument.argument.ensures.0 in
+    at_argument.argument.result (omega arith) at_argument.argument.ensures.0 in
     let k = argued_left 3 at_entry_lem.args.ts.now at_argument.argument.new.1.1.1.0
-    at_argument2.argument2.new.1.1.1.0 at_argument.argument.result_of at_argument2.argument2.result_of
+    at_argument2.argument2.new.1.1.1.0 at_argument.argument.result at_argument2.argument2.result
     at_argument2.argument2.ensures.0 in
     let j = argued_in 3 at_entry_lem.args.ts.now at_argument.argument.new.1.1.1.0
-    at_argument2.argument2.new.1.1.1.0 at_argument.argument.result_of at_argument2.argument2.result_of i
+    at_argument2.argument2.new.1.1.1.0 at_argument.argument.result at_argument2.argument2.result i
     at_argument2.argument2.ensures.0 in (
       omega (arith, at_entry_lem.requires.0),
       (
@@ -321,10 +321,10 @@ choice_close_requires t c κs =
     let long = at_argument3.argument3.ensures.1 in (
       choice_closable at_entry_lem.args.ts.now at_entry_lem.args.at at_entry_lem.args.n at_entry_lem.args.out.now
           at_argument.argument.new.1.1.1.0 at_argument2.argument2.new.1.1.1.0
-          at_argument3.argument3.new.1.1.1.0 at_argument.argument.result_of at_argument2.argument2.result_of
-          at_argument3.argument3.result_of at_argument.argument.ensures.0 at_argument2.argument2.ensures.0
+          at_argument3.argument3.new.1.1.1.0 at_argument.argument.result at_argument2.argument2.result
+          at_argument3.argument3.result at_argument.argument.ensures.0 at_argument2.argument2.ensures.0
           at_argument3.argument3.ensures.0 at_entry_lem.requires.1.0 at_entry_lem.requires.1.1.1.0
-          at_ended.ended.result_of at_ended.ended.ensures long,
+          at_ended.ended.result at_ended.ended.ensures long,
       omega arith,
     )
 
@@ -338,10 +338,10 @@ choice_returns t c =
     let long = at_argument3.argument3.ensures.1 in
     with_length (chosen at_entry_lem.args.ts.now at_entry_lem.args.at at_entry_lem.args.n at_entry_lem.args.out.now
     at_argument.argument.new.1.1.1.0 at_argument2.argument2.new.1.1.1.0
-    at_argument3.argument3.new.1.1.1.0 at_argument.argument.result_of at_argument2.argument2.result_of
-    at_argument3.argument3.result_of at_argument.argument.ensures.0 at_argument2.argument2.ensures.0
+    at_argument3.argument3.new.1.1.1.0 at_argument.argument.result at_argument2.argument2.result
+    at_argument3.argument3.result at_argument.argument.ensures.0 at_argument2.argument2.ensures.0
     at_argument3.argument3.ensures.0 at_entry_lem.requires.1.0 at_entry_lem.requires.1.1.1.0
-    at_ended.ended.result_of c.close.result_of c.close.new.1.1.1.1.0 at_ended.ended.ensures
+    at_ended.ended.result c.close.result c.close.new.1.1.1.1.0 at_ended.ended.ensures
     c.close.ensures.0 c.close.ensures.1 at_entry_lem.requires.1.1.0 at_entry_lem.requires.1.1.1.1 long)
     (c.close.auto.1.1.1.1.0 ∙ long)
 
@@ -376,7 +376,7 @@ operand_close_requires t c κs =
     let at_entry_lem = at_operand.before.before.before.before.before.before in
     let long = at_operand.operand.ensures.1.1 in (
       one_closable at_entry_lem.args.ts.now at_entry_lem.args.at at_entry_lem.args.n
-          at_operand.operand.new.1.1.0 at_operand.operand.result_of at_operand.operand.ensures.1.0
+          at_operand.operand.new.1.1.0 at_operand.operand.result at_operand.operand.ensures.1.0
           at_entry_lem.requires.1.0 at_entry_lem.requires.1.1.0 long,
       omega arith,
     )
@@ -391,7 +391,7 @@ operand_returns_2 t c =
     with_length (operand_not at_entry_lem.args.ts.now at_entry_lem.args.at at_entry_lem.args.n
     at_entry_lem.args.out.now at_if1.if1.false at_entry_lem.requires.1.0 at_entry_lem.requires.1.1.0
     at_entry_lem.requires.1.1.1 at_if2.if2.true at_operand.operand.new.1.1.0
-    at_operand.operand.result_of c.close.result_of c.close.new.1.1.1.1.0
+    at_operand.operand.result c.close.result c.close.new.1.1.1.1.0
     at_operand.operand.ensures.0 at_operand.operand.ensures.1.0 long c.close.ensures.0
     c.close.ensures.1) (c.close.auto.1.1.1.1.0 ∙ long)
 
@@ -407,7 +407,7 @@ operand_returns_3 t c =
     let at_entry_lem = at_if1.before.before in (
       operand_if at_entry_lem.args.ts.now at_entry_lem.args.at at_entry_lem.args.n at_entry_lem.args.out.now
           at_if1.if1.false at_entry_lem.requires.1.0 at_entry_lem.requires.1.1.0 at_entry_lem.requires.1.1.1
-          at_if3.if3.true c.choice.new.1.1.0 c.choice.result_of c.choice.ensures.0,
+          at_if3.if3.true c.choice.new.1.1.0 c.choice.result c.choice.ensures.0,
       c.choice.ensures.1,
     )
 
@@ -429,7 +429,7 @@ operand_returns_4 t c =
     with_length (operand_brackets at_entry_lem.args.ts.now at_entry_lem.args.at at_entry_lem.args.n
     at_entry_lem.args.out.now at_if1.if1.false at_entry_lem.requires.1.0 at_entry_lem.requires.1.1.0
     at_entry_lem.requires.1.1.1 at_if4.if4.true at_argument.argument.new.1.1.1.0
-    at_argument.argument.result_of c.ended.result_of at_argument.argument.ensures.0 c.ended.ensures)
+    at_argument.argument.result c.ended.result at_argument.argument.ensures.0 c.ended.ensures)
     at_argument.argument.ensures.1
 
 operand_leaf_requires : (t : ℕ) → operand-lts.Need-leaf-requires (claims_operand t) (operand_at t) operand.Post
@@ -444,7 +444,7 @@ operand_returns_5 t c =
     let at_entry_lem = at_if1.before.before in
     with_length (operand_leaf at_entry_lem.args.ts.now at_entry_lem.args.at at_entry_lem.args.n
     at_entry_lem.args.out.now at_if1.if1.false at_entry_lem.requires.1.0 at_entry_lem.requires.1.1.0
-    at_entry_lem.requires.1.1.1 at_if2.if2.false at_if3.if3.false at_if4.if4.false c.leaf.result_of
+    at_entry_lem.requires.1.1.1 at_if2.if2.false at_if3.if3.false at_if4.if4.false c.leaf.result
     c.leaf.new.1.1.0 c.leaf.ensures.0 c.leaf.ensures.1)
     (c.leaf.auto.1.1.0 ∙ at_entry_lem.requires.1.1.1)
 
@@ -540,7 +540,7 @@ product_close_requires t c κs =
     let at_entry_lem = at_operand.before.before.before in
     let long = at_operand2.operand2.ensures.1.1 in (
       level_closable _ _ _ (so_far at_entry_lem.args.out.now at_loop.loop.invariant at_operand.operand.ensures.0
-          at_operand.operand.ensures.1 at_entry_lem.requires.1) at_r.r.given.1 at_operand2.operand2.result_of
+          at_operand.operand.ensures.1 at_entry_lem.requires.1) at_r.r.given.1 at_operand2.operand2.result
           at_operand2.operand2.new.1.1.0 long at_operand2.operand2.ensures.1.0,
       omega arith,
     )
@@ -554,8 +554,8 @@ product_loop_less t c =
     let at_loop = at_r.before.before in
     let at_entry_lem = at_loop.before.before.before.before in
     let h = at_if1.before.level-at.ensures.1 (omega (arith, at_if1.if1.false)) in
-    level_less (length at_entry_lem.args.ts.now) _ _ _ at_loop.loop.r at_operand2.operand2.result_of
-    c.close.result_of at_r.r.given.1 h at_operand2.operand2.ensures.1.0 c.close.ensures.0
+    level_less (length at_entry_lem.args.ts.now) _ _ _ at_loop.loop.r at_operand2.operand2.result
+    c.close.result at_r.r.given.1 h at_operand2.operand2.ensures.1.0 c.close.ensures.0
 
 product_loop_again : (t : ℕ) → product-lts.Need-loop-preserved (claims_product t) (product_at t) product.Post
     product_Inv_loop product_μ_loop
@@ -566,9 +566,9 @@ product_loop_again t c o u =
     let at_r = at_level_at.before.before in
     let h = at_level_at.level-at.ensures.1 (omega (arith, at_if1.if1.false)) in
     let long = at_operand2.operand2.ensures.1.1 in
-    level_turn _ _ _ (at_r.before.before.loop.invariant o u) at_r.r.given.1 at_operand2.operand2.result_of
+    level_turn _ _ _ (at_r.before.before.loop.invariant o u) at_r.r.given.1 at_operand2.operand2.result
     at_operand2.operand2.new.1.1.0 (sym at_level_at.level-at.ensures.0 ∙ at_if1.if1.false) h
-    at_operand2.operand2.ensures.0 at_operand2.operand2.ensures.1.0 long c.close.result_of
+    at_operand2.operand2.ensures.0 at_operand2.operand2.ensures.1.0 long c.close.result
     c.close.new.1.1.1.1.0 c.close.ensures.0 c.close.ensures.1
     (c.close.auto.1.1.1.1.0 ∙ long)
 
@@ -654,7 +654,7 @@ sum_close_requires t c κs =
     let at_entry_lem = at_product.before.before.before in
     let long = at_product2.product2.ensures.1.1 in (
       level_closable _ _ _ (so_far at_entry_lem.args.out.now at_loop.loop.invariant at_product.product.ensures.0
-          at_product.product.ensures.1 at_entry_lem.requires.1) at_r.r.given.1 at_product2.product2.result_of
+          at_product.product.ensures.1 at_entry_lem.requires.1) at_r.r.given.1 at_product2.product2.result
           at_product2.product2.new.1.1.0 long at_product2.product2.ensures.1.0,
       omega arith,
     )
@@ -667,8 +667,8 @@ sum_loop_less t c =
     let at_loop = at_r.before.before in
     let at_entry_lem = at_loop.before.before.before.before in
     let h = at_if1.before.level-at.ensures.1 (omega (arith, at_if1.if1.false)) in
-    level_less (length at_entry_lem.args.ts.now) _ _ _ at_loop.loop.r at_product2.product2.result_of
-    c.close.result_of at_r.r.given.1 h at_product2.product2.ensures.1.0 c.close.ensures.0
+    level_less (length at_entry_lem.args.ts.now) _ _ _ at_loop.loop.r at_product2.product2.result
+    c.close.result at_r.r.given.1 h at_product2.product2.ensures.1.0 c.close.ensures.0
 
 sum_loop_again : (t : ℕ) → sum-lts.Need-loop-preserved (claims_sum t) (sum_at t) sum.Post sum_Inv_loop sum_μ_loop
 sum_loop_again t c o u =
@@ -678,9 +678,9 @@ sum_loop_again t c o u =
     let at_r = at_level_at.before.before in
     let h = at_level_at.level-at.ensures.1 (omega (arith, at_if1.if1.false)) in
     let long = at_product2.product2.ensures.1.1 in
-    level_turn _ _ _ (at_r.before.before.loop.invariant o u) at_r.r.given.1 at_product2.product2.result_of
+    level_turn _ _ _ (at_r.before.before.loop.invariant o u) at_r.r.given.1 at_product2.product2.result
     at_product2.product2.new.1.1.0 (sym at_level_at.level-at.ensures.0 ∙ at_if1.if1.false) h
-    at_product2.product2.ensures.0 at_product2.product2.ensures.1.0 long c.close.result_of
+    at_product2.product2.ensures.0 at_product2.product2.ensures.1.0 long c.close.result
     c.close.new.1.1.1.1.0 c.close.ensures.0 c.close.ensures.1
     (c.close.auto.1.1.1.1.0 ∙ long)
 
@@ -775,7 +775,7 @@ ordering_close_requires t c κs =
     let at_entry_lem = at_sum.before.before.before in
     let long = at_sum2.sum2.ensures.1.1 in (
       level_closable _ _ _ (so_far at_entry_lem.args.out.now at_loop.loop.invariant at_sum.sum.ensures.0
-          at_sum.sum.ensures.1 at_entry_lem.requires.1) at_r.r.given.1 at_sum2.sum2.result_of
+          at_sum.sum.ensures.1 at_entry_lem.requires.1) at_r.r.given.1 at_sum2.sum2.result
           at_sum2.sum2.new.1.1.0 long at_sum2.sum2.ensures.1.0,
       omega arith,
     )
@@ -789,7 +789,7 @@ ordering_loop_less t c =
     let at_loop = at_r.before.before in
     let at_entry_lem = at_loop.before.before.before.before in
     let h = at_if1.before.level-at.ensures.1 (omega (arith, at_if1.if1.false)) in
-    level_less (length at_entry_lem.args.ts.now) _ _ _ at_loop.loop.r at_sum2.sum2.result_of c.close.result_of
+    level_less (length at_entry_lem.args.ts.now) _ _ _ at_loop.loop.r at_sum2.sum2.result c.close.result
     at_r.r.given.1 h at_sum2.sum2.ensures.1.0 c.close.ensures.0
 
 ordering_loop_again : (t : ℕ) → ordering-lts.Need-loop-preserved (claims_ordering t) (ordering_at t) ordering.Post
@@ -801,9 +801,9 @@ ordering_loop_again t c o u =
     let at_r = at_level_at.before.before in
     let h = at_level_at.level-at.ensures.1 (omega (arith, at_if1.if1.false)) in
     let long = at_sum2.sum2.ensures.1.1 in
-    level_turn _ _ _ (at_r.before.before.loop.invariant o u) at_r.r.given.1 at_sum2.sum2.result_of
+    level_turn _ _ _ (at_r.before.before.loop.invariant o u) at_r.r.given.1 at_sum2.sum2.result
     at_sum2.sum2.new.1.1.0 (sym at_level_at.level-at.ensures.0 ∙ at_if1.if1.false) h
-    at_sum2.sum2.ensures.0 at_sum2.sum2.ensures.1.0 long c.close.result_of
+    at_sum2.sum2.ensures.0 at_sum2.sum2.ensures.1.0 long c.close.result
     c.close.new.1.1.1.1.0 c.close.ensures.0 c.close.ensures.1
     (c.close.auto.1.1.1.1.0 ∙ long)
 
@@ -899,7 +899,7 @@ equality_close_requires t c κs =
     let at_entry_lem = at_ordering.before.before.before in
     let long = at_ordering2.ordering2.ensures.1.1 in (
       level_closable _ _ _ (so_far at_entry_lem.args.out.now at_loop.loop.invariant at_ordering.ordering.ensures.0
-          at_ordering.ordering.ensures.1 at_entry_lem.requires.1) at_r.r.given.1 at_ordering2.ordering2.result_of
+          at_ordering.ordering.ensures.1 at_entry_lem.requires.1) at_r.r.given.1 at_ordering2.ordering2.result
           at_ordering2.ordering2.new.1.1.0 long at_ordering2.ordering2.ensures.1.0,
       omega arith,
     )
@@ -913,8 +913,8 @@ equality_loop_less t c =
     let at_loop = at_r.before.before in
     let at_entry_lem = at_loop.before.before.before.before in
     let h = at_if1.before.level-at.ensures.1 (omega (arith, at_if1.if1.false)) in
-    level_less (length at_entry_lem.args.ts.now) _ _ _ at_loop.loop.r at_ordering2.ordering2.result_of
-    c.close.result_of at_r.r.given.1 h at_ordering2.ordering2.ensures.1.0 c.close.ensures.0
+    level_less (length at_entry_lem.args.ts.now) _ _ _ at_loop.loop.r at_ordering2.ordering2.result
+    c.close.result at_r.r.given.1 h at_ordering2.ordering2.ensures.1.0 c.close.ensures.0
 
 equality_loop_again : (t : ℕ) → equality-lts.Need-loop-preserved (claims_equality t) (equality_at t) equality.Post
     equality_Inv_loop equality_μ_loop
@@ -925,9 +925,9 @@ equality_loop_again t c o u =
     let at_r = at_level_at.before.before in
     let h = at_level_at.level-at.ensures.1 (omega (arith, at_if1.if1.false)) in
     let long = at_ordering2.ordering2.ensures.1.1 in
-    level_turn _ _ _ (at_r.before.before.loop.invariant o u) at_r.r.given.1 at_ordering2.ordering2.result_of
+    level_turn _ _ _ (at_r.before.before.loop.invariant o u) at_r.r.given.1 at_ordering2.ordering2.result
     at_ordering2.ordering2.new.1.1.0 (sym at_level_at.level-at.ensures.0 ∙ at_if1.if1.false) h
-    at_ordering2.ordering2.ensures.0 at_ordering2.ordering2.ensures.1.0 long c.close.result_of
+    at_ordering2.ordering2.ensures.0 at_ordering2.ordering2.ensures.1.0 long c.close.result
     c.close.new.1.1.1.1.0 c.close.ensures.0 c.close.ensures.1
     (c.close.auto.1.1.1.1.0 ∙ long)
 
@@ -1023,7 +1023,7 @@ conjunction_close_requires t c κs =
     let at_entry_lem = at_equality.before.before.before in
     let long = at_equality2.equality2.ensures.1.1 in (
       level_closable _ _ _ (so_far at_entry_lem.args.out.now at_loop.loop.invariant at_equality.equality.ensures.0
-          at_equality.equality.ensures.1 at_entry_lem.requires.1) at_r.r.given.1 at_equality2.equality2.result_of
+          at_equality.equality.ensures.1 at_entry_lem.requires.1) at_r.r.given.1 at_equality2.equality2.result
           at_equality2.equality2.new.1.1.0 long at_equality2.equality2.ensures.1.0,
       omega arith,
     )
@@ -1037,8 +1037,8 @@ conjunction_loop_less t c =
     let at_loop = at_r.before.before in
     let at_entry_lem = at_loop.before.before.before.before in
     let h = at_if1.before.level-at.ensures.1 (omega (arith, at_if1.if1.false)) in
-    level_less (length at_entry_lem.args.ts.now) _ _ _ at_loop.loop.r at_equality2.equality2.result_of
-    c.close.result_of at_r.r.given.1 h at_equality2.equality2.ensures.1.0 c.close.ensures.0
+    level_less (length at_entry_lem.args.ts.now) _ _ _ at_loop.loop.r at_equality2.equality2.result
+    c.close.result at_r.r.given.1 h at_equality2.equality2.ensures.1.0 c.close.ensures.0
 
 conjunction_loop_again : (t : ℕ) → conjunction-lts.Need-loop-preserved (claims_conjunction t) (conjunction_at t)
     conjunction.Post conjunction_Inv_loop conjunction_μ_loop
@@ -1049,9 +1049,9 @@ conjunction_loop_again t c o u =
     let at_r = at_level_at.before.before in
     let h = at_level_at.level-at.ensures.1 (omega (arith, at_if1.if1.false)) in
     let long = at_equality2.equality2.ensures.1.1 in
-    level_turn _ _ _ (at_r.before.before.loop.invariant o u) at_r.r.given.1 at_equality2.equality2.result_of
+    level_turn _ _ _ (at_r.before.before.loop.invariant o u) at_r.r.given.1 at_equality2.equality2.result
     at_equality2.equality2.new.1.1.0 (sym at_level_at.level-at.ensures.0 ∙ at_if1.if1.false) h
-    at_equality2.equality2.ensures.0 at_equality2.equality2.ensures.1.0 long c.close.result_of
+    at_equality2.equality2.ensures.0 at_equality2.equality2.ensures.1.0 long c.close.result
     c.close.new.1.1.1.1.0 c.close.ensures.0 c.close.ensures.1
     (c.close.auto.1.1.1.1.0 ∙ long)
 
@@ -1148,7 +1148,7 @@ disjunction_close_requires t c κs =
     let long = at_conjunction2.conjunction2.ensures.1.1 in (
       level_closable _ _ _ (so_far at_entry_lem.args.out.now at_loop.loop.invariant
           at_conjunction.conjunction.ensures.0 at_conjunction.conjunction.ensures.1 at_entry_lem.requires.1)
-          at_r.r.given.1 at_conjunction2.conjunction2.result_of at_conjunction2.conjunction2.new.1.1.0 long
+          at_r.r.given.1 at_conjunction2.conjunction2.result at_conjunction2.conjunction2.new.1.1.0 long
           at_conjunction2.conjunction2.ensures.1.0,
       omega arith,
     )
@@ -1162,8 +1162,8 @@ disjunction_loop_less t c =
     let at_loop = at_r.before.before in
     let at_entry_lem = at_loop.before.before.before.before in
     let h = at_if1.before.level-at.ensures.1 (omega (arith, at_if1.if1.false)) in
-    level_less (length at_entry_lem.args.ts.now) _ _ _ at_loop.loop.r at_conjunction2.conjunction2.result_of
-    c.close.result_of at_r.r.given.1 h at_conjunction2.conjunction2.ensures.1.0 c.close.ensures.0
+    level_less (length at_entry_lem.args.ts.now) _ _ _ at_loop.loop.r at_conjunction2.conjunction2.result
+    c.close.result at_r.r.given.1 h at_conjunction2.conjunction2.ensures.1.0 c.close.ensures.0
 
 disjunction_loop_again : (t : ℕ) → disjunction-lts.Need-loop-preserved (claims_disjunction t) (disjunction_at t)
     disjunction.Post disjunction_Inv_loop disjunction_μ_loop
@@ -1175,9 +1175,9 @@ disjunction_loop_again t c o u =
     let h = at_level_at.level-at.ensures.1 (omega (arith, at_if1.if1.false)) in
     let long = at_conjunction2.conjunction2.ensures.1.1 in
     level_turn _ _ _ (at_r.before.before.loop.invariant o u) at_r.r.given.1
-    at_conjunction2.conjunction2.result_of at_conjunction2.conjunction2.new.1.1.0
+    at_conjunction2.conjunction2.result at_conjunction2.conjunction2.new.1.1.0
     (sym at_level_at.level-at.ensures.0 ∙ at_if1.if1.false) h at_conjunction2.conjunction2.ensures.0
-    at_conjunction2.conjunction2.ensures.1.0 long c.close.result_of c.close.new.1.1.1.1.0
+    at_conjunction2.conjunction2.ensures.1.0 long c.close.result c.close.new.1.1.1.1.0
     c.close.ensures.0 c.close.ensures.1 (c.close.auto.1.1.1.1.0 ∙ long)
 
 pub +argument_choice_conjunction_disjunction_equality_operand_ordering_product_sum_spec : {M : Type 1} → statement M

@@ -34,7 +34,7 @@ loop_again c =
       omega arith,
       omega (arith, c.Open-after.ensures.1),
       at_loop.loop.invariant.2
-          ∙ one_on at_entry_lem.args.ts.now at_loop.loop.nested at_loop.loop.i c.Open-after.result_of
+          ∙ one_on at_entry_lem.args.ts.now at_loop.loop.nested at_loop.loop.i c.Open-after.result
           at_loop_test.loop-test.true at_if1.if1.false c.Open-after.ensures.0,
     )
 

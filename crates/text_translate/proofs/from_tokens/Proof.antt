@@ -9,7 +9,7 @@ use Rattle.text_translate.proofs.from_tokens.Tie as tie
 returns : tie.Need-returns
 returns c =
     let at_entry_lem = c.before.before.before.before in
-    unbalanced at_entry_lem.args.ts.now at_entry_lem.args.buffer.now c.before.balanced.result_of
+    unbalanced at_entry_lem.args.ts.now at_entry_lem.args.buffer.now c.before.balanced.result
     c.before.balanced.ensures c.if1.true
 
 returns_2 : tie.Need-returns-2
@@ -17,7 +17,7 @@ returns_2 c =
     let at_disjunction = c.before.before in
     let at_entry_lem = at_disjunction.before.before.before.before.before.before in
     read_none at_entry_lem.args.ts.now _ at_disjunction.disjunction.new.1.1.0 at_entry_lem.args.buffer.now
-    at_disjunction.disjunction.result_of at_disjunction.disjunction.ensures.0 c.enum_told.given.1
+    at_disjunction.disjunction.result at_disjunction.disjunction.ensures.0 c.enum_told.given.1
 
 returns_3 : tie.Need-returns-3
 returns_3 c =
@@ -26,7 +26,7 @@ returns_3 c =
     let at_entry_lem = at_disjunction.before.before.before.before.before.before in
     let w = rw at_r.r.given.1 at at_disjunction.disjunction.ensures.1.0 in
     read_part at_entry_lem.args.ts.now _ at_disjunction.disjunction.new.1.1.0 at_entry_lem.args.buffer.now
-    at_disjunction.disjunction.result_of at_disjunction.disjunction.ensures.0 _ _ _ at_r.r.given.1 w.1
+    at_disjunction.disjunction.result at_disjunction.disjunction.ensures.0 _ _ _ at_r.r.given.1 w.1
     c.if2.true
 
 part_put_result_end : tie.Need-slice-bounds-put-result-end
@@ -54,8 +54,8 @@ returns_4 c =
     let at_disjunction = at_r.before.before in
     let at_entry_lem = at_disjunction.before.before.before.before.before.before in
     read_whole at_entry_lem.args.ts.now _ at_disjunction.disjunction.new.1.1.0 at_entry_lem.args.buffer.now
-    at_disjunction.disjunction.result_of at_disjunction.disjunction.ensures.0 _ _ _
-    at_any_large.any-large.result_of _ at_r.r.given.1 at_if2.if2.false at_any_large.any-large.ensures
+    at_disjunction.disjunction.result at_disjunction.disjunction.ensures.0 _ _ _
+    at_any_large.any-large.result _ at_r.r.given.1 at_if2.if2.false at_any_large.any-large.ensures
     at_put_result.put_result.ensures
 
 pub from_tokens_spec : {M : Type 1} → statement M

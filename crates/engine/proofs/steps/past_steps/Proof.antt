@@ -1,5 +1,5 @@
 -- `engine::steps::past_steps` meets its contract: no call is made, or the steps in a row are. Assumes nothing.
-use Rattle.lib_base.proofs.Prelude.{◌∙◌, sym, not_false, rules, arith}
+use Rattle.lib_base.proofs.Prelude.{◌∙◌, sym, not-false, rules, arith}
 use Rattle.run_step.proofs.Fits.{ours_sound}
 use Rattle.engine.proofs.Laws.{none_made}
 use Rattle.engine.proofs.steps.past_steps.Statement.{statement}
@@ -15,7 +15,7 @@ past_steps_spec =
     (λ c κs. search rules)
     (λ c. search rules)
     (λ c. none_made _ _ _ _ (omega arith))
-    (λ c κs. (ours_sound _ _ (sym c.before.before.before.is_ours.ensures.0 ∙ not_false _ c.before.before.if2.false), omega arith, search rules, search rules))
+    (λ c κs. (ours_sound _ _ (sym c.before.before.before.is_ours.ensures.0 ∙ not-false _ c.before.before.if2.false), omega arith, search rules, search rules))
     (λ c. search rules)
     (λ c. search rules)
     (λ c. search rules))
