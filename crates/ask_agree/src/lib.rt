@@ -1,6 +1,9 @@
 // Whether two phones agree: whether every two declared events of unequal rank are independent (01, "The meaning of one
 // event"; demand 3's last sentence). Time: compile's without writing the table, a pass over the nodes, one closure, and
 // a few operations for each pair of events. No recursion; the draft, a matrix and some sets lie on the stack.
+
+#![tactic(auto)]
+
 ghost use Rattle.std.specs.Prelude.{◌≡◌, ◌&&◌, ◌||◌, ℕ, ◌+◌, ◌-◌, ◌≤◌, ◌<◌, length, get_or};
 ghost use Rattle.lib_bits.specs.Bits.{bit};
 ghost use Rattle.draft_form.specs.Draft.{draft_length};

@@ -1,6 +1,9 @@
 // Whether two phones agree on one behaviour: whether no two declared events of unequal rank meet in what it depends on.
 // Time: compile's without writing the table, a few passes over the nodes, two closures, and a few operations for each
 // pair of events. No recursion; the draft, two matrices and some sets lie on the stack.
+
+#![tactic(auto)]
+
 ghost use Rattle.std.specs.Prelude.{◌≡◌, ◌&&◌, ◌||◌, ℕ, ◌+◌, ◌-◌, ◌≤◌, ◌<◌, length, get_or};
 ghost use Rattle.lib_bits.specs.Bits.{bit};
 ghost use Rattle.spec_language.specs.Syntax.{Program};

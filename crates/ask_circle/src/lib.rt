@@ -1,4 +1,7 @@
 // compile's number for a sheet, and with 12 a shortest circle of its behaviours (02, M-108).
+
+#![tactic(auto)]
+
 ghost use Rattle.ask_circle.specs.Witness.{Witnessed};
 
 use back_compile::Judgement;

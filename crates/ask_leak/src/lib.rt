@@ -1,5 +1,8 @@
 // Whether a hidden value may leak to a player: M-107's condition of a sheet. Time: compile's without writing the table,
 // and a pass over the nodes of what the player sees. No recursion; the draft lies on the stack.
+
+#![tactic(auto)]
+
 ghost use Rattle.std.specs.Prelude.{◌≡◌, not, ◌&&◌, ◌||◌, ℕ, ◌+◌, ◌≤◌, ◌<◌, eqb, length, get_or};
 ghost use Rattle.lib_base.specs.Basics.{pick};
 ghost use Rattle.lib_bits.specs.Bits.{bit, Gathers};

@@ -1,6 +1,9 @@
 // What two events may meet at, on the draft of a program (layout: draft_form, specs/Draft.antt): what a behaviour
 // depends on, whether a handler adds to its behaviour, and what each event is strict about (specs/Meeting.antt). Time:
 // a pass over the nodes, and n * n operations on words for the chains of n behaviours.
+
+#![tactic(auto)]
+
 ghost use Rattle.std.specs.Prelude.{◌≡◌, not, ◌&&◌, ◌||◌, ℕ, ◌+◌, ◌≤◌, ◌<◌, length, get_or, eqb, leb};
 ghost use Rattle.lib_base.specs.Basics.{pick};
 ghost use Rattle.lib_bits.specs.Bits.{bit, Gathers};

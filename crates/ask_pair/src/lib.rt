@@ -1,6 +1,9 @@
 // What two events share: whether they are independent, and else a behaviour at which they meet or that they share.
 // Time: compile's without writing the table, a few passes over the nodes and a closure. No recursion; the draft, a
 // matrix and some sets lie on the stack.
+
+#![tactic(auto)]
+
 ghost use Rattle.std.specs.Prelude.{◌≡◌, ◌&&◌, ◌||◌, ℕ, ◌+◌, ◌≤◌, ◌<◌, length, get_or};
 ghost use Rattle.lib_base.specs.Basics.{pick};
 ghost use Rattle.lib_bits.specs.Bits.{bit, Gathers};

@@ -3,6 +3,9 @@
 // each of ev events and for none, twice: a pass over the nodes for the names, and an order of bs behaviours, each
 // choice looking at one set for each of them. In all bytes + 2 * (ev + 1) * (names + bs * bs), and the instructions
 // written, at most 4096.
+
+#![tactic(auto)]
+
 ghost use Rattle.std.specs.Prelude.{◌≡◌, ◌≤◌, length, replicate};
 ghost use Rattle.draft_form.specs.Draft.{draft_length};
 ghost use Rattle.back_compile.specs.Verdict.{compile_on};

@@ -1,4 +1,7 @@
 // 01's count of an event's instructions, and how many behaviours it copies, from the draft (crate draft_form).
+
+#![tactic(auto)]
+
 ghost use Rattle.std.specs.Prelude.{◌≡◌, ◌≤◌, length};
 ghost use Rattle.draft_form.specs.Entry.{entry_count};
 ghost use Rattle.draft_form.specs.Draft.{draft_length};

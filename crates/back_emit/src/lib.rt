@@ -1,6 +1,9 @@
 // The instructions of one behaviour on an event, written into the table from the draft (crate draft_form). Each
 // function writes from word `place` on and returns the next word. An instruction is two words: operation * 256 + slot,
 // and a constant (crate format_image).
+
+#![tactic(auto)]
+
 ghost use Rattle.std.specs.Prelude.{◌≡◌, [], ◌∷◌, ◌+◌, ◌<◌, ◌≤◌, length};
 ghost use Rattle.back_counts.specs.Counts.{EntriesInside};
 ghost use Rattle.draft_form.specs.Draft.{draft_length};

@@ -1,6 +1,9 @@
 // The handler of one event (003, Figure 3; 01: its code), written into the table from its draft (crate draft_form), in
 // the order of Figure 3: the check on dependence, phase one, phase two, and then the copy and the copy-back around
 // them. Each function writes from word `place` on and returns the next word.
+
+#![tactic(auto)]
+
 ghost use Rattle.std.specs.Prelude.{◌≡◌, ◌≤◌, length};
 ghost use Rattle.back_counts.specs.Counts.{EntriesInside};
 ghost use Rattle.back_emit.specs.Words.{each, member_words};

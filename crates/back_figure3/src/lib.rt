@@ -1,1 +1,4 @@
 // Definitions and theorems only: specs/.
+
+#![tactic(auto)]
+

@@ -1,4 +1,7 @@
 // Evaluating a draft: the nodes of an expression on a stack of 64 words, and the values of a fresh round.
+
+#![tactic(auto)]
+
 ghost use Rattle.std.specs.Prelude.{◌≡◌, ◌+◌, ◌-◌, ◌%◌, ◌<◌, ◌≤◌, length, take, drop};
 ghost use Rattle.draft_form.specs.Draft.{draft_length, used_by};
 ghost use Rattle.back_fresh.specs.Evaluate.{push_depth, push_stack, look, argument, applied_at, apply_depth, apply_stack, node_depth, node_stack, evaluated};

@@ -1,5 +1,8 @@
 // The table's parts that take no order: zeros, values, the head, the record of one event, and who may see and send.
 // Each writes from word `place` on, and returns the word after.
+
+#![tactic(auto)]
+
 ghost use Rattle.std.specs.Prelude.{◌≡◌, [], ◌∷◌, ◌+◌, ◌-◌, ◌%◌, ◌<◌, ◌≤◌, length, get_or, replicate};
 ghost use Rattle.format_image.specs.Table.{padded};
 ghost use Rattle.back_counts.specs.Counts.{count_members};

@@ -1,4 +1,7 @@
 // The table's words on passives: which behaviours they are, and where the instructions stand that work them out.
+
+#![tactic(auto)]
+
 ghost use Rattle.std.specs.Prelude.{◌≡◌, [], ◌∷◌, ◌≤◌, ◌<◌, length, eqb};
 ghost use Rattle.lib_base.specs.Basics.{pick};
 ghost use Rattle.draft_form.specs.Entry.{entry_kind, entry_count};

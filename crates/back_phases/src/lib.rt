@@ -1,5 +1,8 @@
 // The two phases of an event's handler (003, Figure 3), written into the table from its draft (crate draft_form) and
 // the order that the check on dependence gives. Each function writes from word `place` on and returns the next word.
+
+#![tactic(auto)]
+
 ghost use Rattle.std.specs.Prelude.{◌≡◌, ◌≤◌, length, take};
 ghost use mathlib.Core.List.{flat_map};
 ghost use Rattle.back_counts.specs.Counts.{EntriesInside};

@@ -1,5 +1,8 @@
 // The check on dependence of one event (003, Figure 3): an order in which each behaviour comes after its needs, or that
 // there is none.
+
+#![tactic(auto)]
+
 ghost use Rattle.std.specs.Prelude.{◌≡◌, not, ◌&&◌, ◌||◌, ℕ, ◌≤◌, ◌<◌, length, eqb};
 ghost use Rattle.lib_bits.specs.Bits.{bit};
 ghost use Rattle.check_faults.specs.Checks.{RowsInside};

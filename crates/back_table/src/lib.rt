@@ -1,4 +1,7 @@
 // Writes the table of a draft (crate draft_form) whose faults are judged: the image's parts one after the other.
+
+#![tactic(auto)]
+
 ghost use Rattle.std.specs.Prelude.{◌≡◌, ◌≤◌, length};
 ghost use Rattle.format_image.specs.Table.{put_words};
 ghost use Rattle.check_faults.specs.Checks.{AllInside};

@@ -1,6 +1,9 @@
 // Walks along dependence (rows of 64 bits, crate check_graph) that end at one behaviour i, by their number of steps,
 // and a shortest one from i back to i: a breadth-first search, a level for each number of steps, until it is home or a
 // level is empty. Time: n levels of n steps at the most.
+
+#![tactic(auto)]
+
 ghost use Rattle.std.specs.Prelude.{◌≡◌, true, ◌&&◌, ◌||◌, ℕ, ◌-◌, ◌≤◌, ◌<◌, eqb, length};
 ghost use Rattle.lib_bits.specs.Bits.{bit};
 ghost use Rattle.check_graph.specs.Any.{any_below};

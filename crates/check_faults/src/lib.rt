@@ -2,6 +2,9 @@
 // cycles. Time: the names take one pass over the nodes. The cycles take, for each of ev events and for none, a pass
 // over the nodes of the entries for their names, and an order of bs behaviours: in all (ev + 1) * (nodes + bs * bs).
 // Where one is left out of the order, what is reached from each is worked out, bs * bs steps; and one reaches itself.
+
+#![tactic(auto)]
+
 ghost use Rattle.std.specs.Prelude.{◌≡◌, ℕ, ◌+◌, ◌*◌, ◌≤◌, ◌<◌, ◌&&◌, ◌||◌, length, take, drop, ltb};
 ghost use Rattle.lib_bits.specs.Bits.{bit};
 ghost use Rattle.draft_form.specs.Entry.{entry_start, entry_count};

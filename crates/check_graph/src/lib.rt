@@ -1,6 +1,9 @@
 // Dependence of up to 64 behaviours as sets of 64 bits, a row for each (crate lib_bits), j in rows[i]: an order in
 // which each comes after its needs, and the transitive closure, what is reached from each. The proofs see both as
 // matrices of 64 x 64 bytes (specs/Matrix.antt).
+
+#![tactic(auto)]
+
 ghost use Rattle.std.specs.Prelude.{◌≡◌, ◌+◌, ◌*◌, ◌≤◌, ◌<◌, length};
 ghost use Rattle.check_graph.specs.Placing.{find_on, placed, order_on};
 ghost use Rattle.check_graph.specs.Sets.{ready_set, RowsBelow, bytes_of, marks_of, TakenIn, PassedThrough, ClosedRows};

@@ -1,6 +1,9 @@
 // What each event writes, and what its handlers name, directly or through passives, as sets of behaviours: on the draft
 // of a program (layout: draft_form, specs/Draft.antt). Time: a pass over the nodes of the handlers and of the
 // passives, and n * n operations on words for the chains of n behaviours.
+
+#![tactic(auto)]
+
 ghost use Rattle.std.specs.Prelude.{◌≡◌, Bool, ◌&&◌, ◌||◌, ℕ, ◌+◌, ◌≤◌, ◌<◌, length, get_or, eqb, leb};
 ghost use Rattle.lib_bits.specs.Bits.{bit, Gathers};
 ghost use Rattle.draft_form.specs.Draft.{draft_length, used_by};

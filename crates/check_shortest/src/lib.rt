@@ -1,5 +1,8 @@
 // A shortest circle of a draft (crate draft_form), over all events and none (02, M-108). Time: for each of ev events
 // and for none, and for each of bs behaviours, up to bs levels of bs steps: in all (ev + 1) * bs * bs * bs at the most.
+
+#![tactic(auto)]
+
 ghost use Rattle.std.specs.Prelude.{◌≡◌, true, ◌≤◌, ◌<◌, length};
 ghost use Rattle.check_faults.specs.Checks.{cyclic_on, RowsInside, AllInside};
 ghost use Rattle.draft_form.specs.Draft.{draft_length};

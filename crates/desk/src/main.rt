@@ -1,4 +1,7 @@
 // The desk program: reads fields from standard input, calls the engine and writes the lines of desk_format.
+
+#![tactic(auto)]
+
 ghost use Rattle.std.specs.Prelude.{◌≤◌, ◌<◌, length};
 ghost use Rattle.io.specs.Counts.{IsPrefixLen};
 ghost use Rattle.lib_base.specs.Words.{half_values};

@@ -1,5 +1,8 @@
 // The desk program's format: how its fields are judged, and the lines that it prints. 01 "The desk program". Tags are
 // 20 to 23 in hexadecimal, 32 to 35 in decimal.
+
+#![tactic(auto)]
+
 ghost use Rattle.std.specs.Prelude.{◌≡◌, ◌++◌, ◌∷◌, ◌+◌, ◌*◌, ◌≤◌, length, take};
 ghost use Rattle.io.specs.Counts.{IsPrefixLen};
 ghost use Rattle.sheet_field.specs.Header.{header_of, HeaderWithin};

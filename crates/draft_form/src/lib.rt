@@ -1,4 +1,7 @@
 // Reading the draft of a program (layout: specs/Draft.antt).
+
+#![tactic(auto)]
+
 ghost use Rattle.std.specs.Prelude.{◌≡◌, ◌<◌, length};
 ghost use Rattle.draft_form.specs.Draft.{draft_length, entry_of, moved};
 ghost use Rattle.spec_language.specs.Limits.{behaviour_limit};

@@ -1,5 +1,8 @@
 // Parameters in the draft of a sheet (layout: draft_form, specs/Draft.antt; 02, M-103): whether one stands there, and
 // each node of one replaced by its constant's. Time: one pass over the nodes for either.
+
+#![tactic(auto)]
+
 ghost use Rattle.std.specs.Prelude.{◌≡◌, ◌<◌, ◌≤◌, ◌^◌, length};
 ghost use Rattle.draft_form.specs.Draft.{draft_length};
 ghost use Rattle.draft_params.specs.Filling.{parameter_value, filled_node, fill_to, any_param, lacks_param};

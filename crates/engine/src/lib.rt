@@ -1,5 +1,8 @@
 // The exported calls. Each contract gives the answer and every byte at exit, for all bytes and numbers; none has a
 // `requires`. The table is lent as `&[u8]` to all but compile: they leave it as it was.
+
+#![tactic(auto)]
+
 ghost use Rattle.std.specs.Prelude.{◌≡◌, ◌+◌, ◌*◌, ◌≤◌, ◌<◌, length};
 ghost use Rattle.back_compile.specs.Verdict.{compile_on};
 ghost use Rattle.back_compile.specs.Compiled.{compiled};

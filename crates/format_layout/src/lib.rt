@@ -1,4 +1,7 @@
 // The table and the round as words, and which tables are foreign. Layout: specs/Layout.antt.
+
+#![tactic(auto)]
+
 ghost use Rattle.std.specs.Prelude.{◌≡◌, true, ◌+◌, ◌*◌, ◌≤◌, ◌<◌, length};
 ghost use Rattle.lib_word.specs.Word.{get};
 ghost use Rattle.format_layout.specs.Layout.{event_word, event_of, player_of};

@@ -1,5 +1,8 @@
 // The reader of one behaviour and its handlers: from the bytes of its field to its place in the draft, the first fault
 // met from left to right.
+
+#![tactic(auto)]
+
 ghost use Rattle.std.specs.Prelude.{◌≡◌, ◌<◌, ◌≤◌, ◌*◌, ◌+◌, length};
 ghost use Rattle.front_field.specs.Expression.{out, ReadIn};
 ghost use Rattle.draft_form.specs.Draft.{draft_length};

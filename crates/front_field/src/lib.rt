@@ -1,4 +1,7 @@
 // The reader of expressions.
+
+#![tactic(auto)]
+
 ghost use Rattle.std.specs.Prelude.{◌≡◌, ◌<◌, ◌≤◌, ◌*◌, ◌+◌, ◌-◌, ◌^◌, length};
 ghost use Rattle.draft_form.specs.Draft.{draft_length};
 ghost use Rattle.front_field.specs.Expression.{head_at, head_of, expression_value, HeadIn, out, close_at, expr_of, ReadIn, CloseIn};

@@ -1,6 +1,9 @@
 // Rows in the reader (02, M-110): which tags are due where a behaviour may stand, and the cells of a row after the
 // first, which the draft (layout: draft_form, specs/Draft.antt) has as copies of the first.
 // Time: 36 words for each cell.
+
+#![tactic(auto)]
+
 ghost use Rattle.std.specs.Prelude.{◌≡◌, ◌+◌, ◌<◌, ◌≤◌, length};
 ghost use Rattle.draft_form.specs.Draft.{draft_length};
 ghost use Rattle.front_rows.specs.Cells.{least_of, most_of, entries_copied, start_copied, viewer_copied, cell_copied, row_copied};

@@ -1,4 +1,7 @@
 // The reader: from the bytes of a program to its draft, the first fault met from left to right.
+
+#![tactic(auto)]
+
 ghost use Rattle.std.specs.Prelude.{◌≡◌, ◌<◌, ◌≤◌, ◌+◌, length};
 ghost use Rattle.front_field.specs.Expression.{out};
 ghost use Rattle.draft_form.specs.Draft.{draft_length};

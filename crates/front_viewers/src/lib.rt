@@ -1,4 +1,7 @@
 // The end of a behaviour's value: who may see it, from a field 08 or from nothing (02, M-107).
+
+#![tactic(auto)]
+
 ghost use Rattle.std.specs.Prelude.{◌≡◌, ◌<◌, length};
 ghost use Rattle.draft_form.specs.Draft.{draft_length};
 ghost use Rattle.front_field.specs.Expression.{out};

@@ -1,4 +1,7 @@
 // Arithmetic on 32-bit words that stand for signed numbers. Each result is the exact value, brought to 32 bits.
+
+#![tactic(auto)]
+
 ghost use Rattle.std.specs.Prelude.{◌≡◌, ◌+ℤ◌, ◌-ℤ◌, ◌*ℤ◌, int_lt};
 ghost use Rattle.lib_arith.specs.Exact.{signed, wrapped};
 ghost use Rattle.lib_arith.specs.Functions.{floor_z};

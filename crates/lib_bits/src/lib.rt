@@ -1,4 +1,7 @@
 // A word of 64 bits as a set of numbers below 64 (specs/Bits.antt).
+
+#![tactic(auto)]
+
 ghost use Rattle.std.specs.Prelude.{◌≡◌, ◌&&◌, ◌||◌, ℕ, ◌<◌, eqb};
 ghost use Rattle.lib_bits.specs.Bits.{bit};
 ghost use Rattle.lib_base.specs.Words.{set_bits};

@@ -1,5 +1,8 @@
 // The functions by their numbers, on 32-bit words that stand for signed numbers. 01 "Arithmetic". Each answers
 // its word, and 2^32 more where it ran over (02, M-104).
+
+#![tactic(auto)]
+
 ghost use Rattle.std.specs.Prelude.{not, ◌&&◌, ◌||◌, ◌≡◌};
 ghost use Rattle.std.specs.Int.Signed.{lt_z};
 ghost use Rattle.lib_base.specs.Basics.{pick};

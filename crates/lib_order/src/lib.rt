@@ -1,4 +1,7 @@
 // The smaller and the larger of two numbers, in the widths in which they are asked for: words and sizes.
+
+#![tactic(auto)]
+
 ghost use Rattle.std.specs.Prelude.{◌≡◌, min, max};
 
 pub fn smaller(a: u32, b: u32) -> u32

@@ -1,5 +1,8 @@
 // The four functions that can run over, on 32-bit words that stand for signed numbers: the word of the exact result,
 // and 2^32 more where the two differ or the divisor is zero (02, M-104).
+
+#![tactic(auto)]
+
 ghost use Rattle.std.specs.Prelude.{◌||◌, ◌≡◌, eqb, ◌+ℤ◌, ◌-ℤ◌, ◌*ℤ◌};
 ghost use Rattle.lib_arith.specs.Exact.{signed, wrapped, beyond};
 ghost use Rattle.lib_arith.specs.Marked.{packed, reported};

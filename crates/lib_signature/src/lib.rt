@@ -1,4 +1,7 @@
 // The signature of the language, for the code (specs/Signature.antt): the functions' numbers, arities and levels.
+
+#![tactic(auto)]
+
 ghost use Rattle.std.specs.Prelude.{◌≡◌, ◌≤◌};
 ghost use Rattle.lib_signature.specs.Signature.{arity, level};
 

@@ -1,5 +1,5 @@
 -- Reading after writing, byte by byte from the laws of `set`, and the words and halves put together by `omega`.
-use Rattle.lib_base.proofs.Prelude.{ℕ, ◌≤◌, ◌<◌, ◌+◌, suc, zero, ◌*◌, ◌%◌, ◌/◌, ◌≡◌, refl, true, Bool, ◌≢◌, List, ◌∷◌}
+use Rattle.lib_base.proofs.Prelude.{subst, sym, ℕ, ◌≤◌, ◌<◌, ◌+◌, suc, zero, ◌*◌, ◌%◌, ◌/◌, ◌≡◌, refl, true, Bool, ◌≢◌, List, ◌∷◌}
 use Rattle.lib_base.proofs.Prelude.{length, get_or, length-set, set, get_or-set_other, get_or-set_same, eqb, ltb, leb}
 use Rattle.lib_base.proofs.Prelude.{add-one, eqb-true, eqb-false, ltb-true, leb-true, arith}
 use Rattle.lib_base.specs.Basics.{pick}
@@ -90,10 +90,12 @@ unfolding words long
 words_in l a zero i w h b c = absurd (omega arith)
 words_in l a (suc n) zero w h b c =
     let z : a + 0 ≡ a = omega arith in
-    rw (z, get_same l a w (omega (arith, leb-true)), words_out l a w (suc a) n (omega arith))
+    subst (λ k. words (put l k w) a (suc n) ≡ set (words l a (suc n)) 0 w) (sym z)
+    (rw (get_same l a w (omega (arith, leb-true)), words_out l a w (suc a) n (omega arith)))
 words_in l a (suc n) (suc i) w h b c =
     let z : a + suc i ≡ suc a + i = omega arith in
-    rw (z, get_other l (suc a + i) w a (omega arith), words_in l (suc a) n i w h (omega arith) (omega arith))
+    subst (λ k. words (put l k w) a (suc n) ≡ set (words l a (suc n)) (suc i) w) (sym z)
+    (rw (get_other l (suc a + i) w a (omega arith), words_in l (suc a) n i w h (omega arith) (omega arith)))
 
 -- a stack, after a write outside it or above it
 pub pile_out : (l : List ℕ) (k w a n : ℕ) → ((j : ℕ) → a ≤ j → j < a + n → j ≢ k) → pile (put l k w) a n ≡ pile l a n

@@ -1,4 +1,7 @@
 // Words of four bytes and halves of two, big-endian, in a byte slice.
+
+#![tactic(auto)]
+
 ghost use Rattle.std.specs.Prelude.{◌≡◌, ◌+◌, ◌*◌, ◌≤◌, ◌<◌, length};
 ghost use Rattle.lib_word.specs.Word.{get_at, get, put};
 ghost use Rattle.lib_word.specs.Halves.{swap_bytes, get_half, put_half};

@@ -1,6 +1,9 @@
 // The bytes of two accepted sheets joined into one (02, M-111): their events by number, the behaviours of the first,
 // then those of the second with their names moved up. Time: one pass over the bytes of both, and at most 64 turns to
 // count the behaviours of the first.
+
+#![tactic(auto)]
+
 ghost use Rattle.std.specs.Prelude.{◌≡◌, ◌≤◌, ◌+◌, ◌-◌, length, drop};
 ghost use Rattle.link_events.specs.Written.{BytesWritten};
 ghost use Rattle.link_bytes.specs.Splice.{count_from, moved_byte, scan, spliced};

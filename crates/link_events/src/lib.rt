@@ -1,5 +1,8 @@
 // The events of two sheets joined by number (02, M-111), from the sheets' bytes: their fields, the place where they
 // end, and whether two ranks differ. Time: at most 32 turns, a field of each sheet a turn.
+
+#![tactic(auto)]
+
 ghost use Rattle.std.specs.Prelude.{◌≡◌, ◌≤◌, ◌+◌, ◌-◌, length};
 ghost use Rattle.link_events.specs.Merging.{width_at, rank_at, sender_at, merged, pair_bytes, events_from, end_from, agree_from};
 ghost use Rattle.link_events.specs.Written.{BytesWritten};

@@ -1,5 +1,8 @@
 // One sheet from two accepted ones (02, M-111): compile's number for each, 26, compile's number for the joined one, 27,
 // or 2 ^ 32 and its length. Time: that of compile for each of the three, and one pass over the bytes of both.
+
+#![tactic(auto)]
+
 ghost use Rattle.std.specs.Prelude.{◌≡◌, ◌≤◌, length};
 ghost use Rattle.spec_language.specs.Reading.{read_sheet};
 ghost use Rattle.back_compile.specs.Number.{number_on};

@@ -1,1 +1,4 @@
 // A frame is the steps that it makes: statements in specs/, their proofs in proofs/. No code.
+
+#![tactic(auto)]
+

@@ -1,4 +1,7 @@
 // One instruction of the running arrival, on the round's bytes.
+
+#![tactic(auto)]
+
 ghost use Rattle.std.specs.Prelude.{◌≡◌, ◌≤◌, ◌<◌, length};
 ghost use Rattle.format_layout.specs.Layout.{event_count, running_event, depth};
 ghost use Rattle.format_layout.specs.Bounds.{TableBounds};

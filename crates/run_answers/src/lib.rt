@@ -1,4 +1,7 @@
 // Answers of eight bytes, one after the other in a lent buffer.
+
+#![tactic(auto)]
+
 ghost use Rattle.std.specs.Prelude.{◌≡◌, ◌+◌, ◌*◌, ◌≤◌, ◌<◌, length};
 ghost use Rattle.run_answers.specs.Answers.{put_answer};
 ghost use Rattle.run_answers.specs.Sizes.{answer_bytes, answer_limit};

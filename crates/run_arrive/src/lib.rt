@@ -1,4 +1,7 @@
 // Arrivals on the round's bytes, refused by 14 where table or round is foreign.
+
+#![tactic(auto)]
+
 ghost use Rattle.std.specs.Prelude.{◌≡◌, false, ◌<◌};
 ghost use Rattle.format_layout.specs.Round.{call_result};
 ghost use Rattle.run_arrive.specs.Arrivals.{queue_full, arrive_on};

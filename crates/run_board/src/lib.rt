@@ -1,5 +1,8 @@
 // Board readings on the round's bytes, refused by 14 where table or round is foreign, and when the running one is
 // masked.
+
+#![tactic(auto)]
+
 ghost use Rattle.std.specs.Prelude.{◌≡◌};
 ghost use Rattle.format_layout.specs.Bounds.{Bounds};
 ghost use Rattle.run_board.specs.Board.{board_on, copy_back_on};

@@ -1,5 +1,8 @@
 // A burst: steps up to the next commit, judged once by the caller. A stretch of instructions without a start, a
 // preemption or a commit among them is run at once; every other step is `run_step`'s.
+
+#![tactic(auto)]
+
 ghost use Rattle.std.specs.Prelude.{◌≡◌, ◌≤◌, ◌<◌};
 ghost use Rattle.run_step.specs.Sound.{RoundSound, is_outranked};
 ghost use Rattle.run_burst.specs.Burst.{unmade, stops, burst, burst_on};

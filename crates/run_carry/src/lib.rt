@@ -1,5 +1,8 @@
 // The values that a round is carried to a new table with: those that stay, the new starts, and the passives worked out
 // by the new table's instructions.
+
+#![tactic(auto)]
+
 ghost use Rattle.std.specs.Prelude.{◌≡◌, ◌+◌, ◌≤◌, ◌<◌, length};
 ghost use Rattle.lib_word.specs.Word.{get};
 ghost use Rattle.format_layout.specs.Round.{call_result};

@@ -1,4 +1,7 @@
 // What a table tells of its program, and the version of this library: so that a host need not probe for them.
+
+#![tactic(auto)]
+
 ghost use Rattle.std.specs.Prelude.{◌≡◌};
 ghost use Rattle.run_counts.specs.Counts.{event_count_on, behaviour_count_on, event_rank_on};
 ghost use Rattle.run_counts.specs.Version.{version_number};

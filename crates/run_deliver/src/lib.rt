@@ -1,5 +1,8 @@
 // Deliveries: entry `number` of an order is taken in once and in its place. Where the hand is full, steps are made
 // until one commits: one commit makes room. And what is taken in and in hand.
+
+#![tactic(auto)]
+
 ghost use Rattle.std.specs.Prelude.{◌≡◌, false, ◌+◌, ◌*◌, ◌≤◌, ◌<◌, length};
 ghost use Rattle.format_layout.specs.Bounds.{Bounds};
 ghost use Rattle.format_layout.specs.Layout.{taken, event_count, senders_at, waiting_count, running_flag};

@@ -1,4 +1,7 @@
 // The next starts, or preempts the running one, in the round's bytes.
+
+#![tactic(auto)]
+
 ghost use Rattle.std.specs.Prelude.{◌≡◌, ◌≤◌, ◌<◌, length};
 ghost use Rattle.format_layout.specs.Round.{call_result};
 ghost use Rattle.run_dispatch.specs.Dispatch.{run_arrival, start_at, preempt_at};

@@ -1,5 +1,8 @@
 // The steps to idle, read from the table's and the round's bytes: exact while nothing runs, else 01's bound. Refused by
 // 14 where table or round is foreign.
+
+#![tactic(auto)]
+
 ghost use Rattle.std.specs.Prelude.{◌≡◌, ◌≤◌};
 ghost use Rattle.format_layout.specs.Layout.{event_count, waiting_count};
 ghost use Rattle.format_layout.specs.Bounds.{TableBounds, Bounds};

@@ -1,4 +1,7 @@
 // A frame: up to as many steps as are asked for in one call, each commit's answer written to a lent buffer.
+
+#![tactic(auto)]
+
 ghost use Rattle.std.specs.Prelude.{◌≡◌, ◌≢◌, ◌+◌, ◌*◌, ◌≤◌, ◌<◌, length};
 ghost use Rattle.run_frame.specs.Frame.{frame_said, count_after, commits_after, idle_or, frame_from, refused_frame, frame_on};
 ghost use Rattle.run_frame.specs.Framed.{room_for, framed};

@@ -1,5 +1,8 @@
 // One instruction on the round's bytes (01 "Handlers and steps"), by its word, operation * 256 + slot. The depth of the
 // evaluation stack is handed in and answered by value: its word in the round is the caller's to write.
+
+#![tactic(auto)]
+
 ghost use Rattle.std.specs.Prelude.{◌≡◌, ◌+◌, ◌≤◌, ◌<◌, length};
 ghost use Rattle.lib_word.specs.Word.{get};
 ghost use Rattle.lib_arith.specs.Functions.{result_of, over};

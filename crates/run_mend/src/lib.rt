@@ -1,5 +1,8 @@
 // A round is carried to a newly compiled table. Refused by 14 where the round is foreign with the old table, or the new
 // table or its instructions for the passives are, then by 19 and 28.
+
+#![tactic(auto)]
+
 ghost use Rattle.std.specs.Prelude.{◌≡◌, ◌≢◌, ◌≤◌, length};
 ghost use Rattle.format_layout.specs.Layout.{waiting_count, running_flag, running_number, running_word};
 ghost use Rattle.format_layout.specs.Bounds.{TableBounds};

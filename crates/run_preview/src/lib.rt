@@ -1,5 +1,8 @@
 // The value that the board would show after an arrival and everything in hand had been run to idle, tried on a copy of
 // the round. The arrival judges table and round, and the steps on the copy are not judged again.
+
+#![tactic(auto)]
+
 ghost use Rattle.std.specs.Prelude.{◌≡◌, ◌+◌, ◌≤◌, ◌<◌, length};
 ghost use Rattle.format_layout.specs.Bounds.{TableBounds};
 ghost use Rattle.format_layout.specs.Round.{call_result};

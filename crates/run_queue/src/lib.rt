@@ -1,4 +1,7 @@
 // The queue in the round's bytes: the choice of the next, and writing a waiting arrival.
+
+#![tactic(auto)]
+
 ghost use Rattle.std.specs.Prelude.{◌≡◌, ◌+◌, ◌*◌, ◌≤◌, ◌<◌, length};
 ghost use Rattle.format_layout.specs.Layout.{event_word, event_at};
 ghost use Rattle.run_queue.specs.Queue.{EventsKnown, ahead, best, any_above, put_slot};

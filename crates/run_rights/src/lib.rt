@@ -1,4 +1,7 @@
 // Who may send an event and who may see a behaviour: one bit of a word in the table.
+
+#![tactic(auto)]
+
 ghost use Rattle.std.specs.Prelude.{◌≡◌, ◌≤◌, ◌<◌, ◌^◌, length};
 ghost use Rattle.spec_language.specs.Rights.{may};
 ghost use Rattle.format_layout.specs.Layout.{viewers_at, senders_at};

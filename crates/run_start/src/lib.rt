@@ -1,4 +1,7 @@
 // A fresh round, and `start`.
+
+#![tactic(auto)]
+
 ghost use Rattle.std.specs.Prelude.{◌≡◌, ◌+◌, ◌≤◌, ◌<◌, length, replicate};
 ghost use Rattle.format_layout.specs.Round.{call_result};
 ghost use Rattle.run_start.specs.Start.{cleared, stored, image, values_in, start_on};

@@ -1,5 +1,8 @@
 // Steps on the round's bytes (01 "Handlers and steps"). `&*table` lends the slice anew: the call gets no copy of its
 // pointer and length, which would be slow to read back (also in the other calls).
+
+#![tactic(auto)]
+
 ghost use Rattle.std.specs.Prelude.{◌≡◌};
 ghost use Rattle.format_layout.specs.Round.{call_result};
 ghost use Rattle.run_step.specs.Machine.{step_on};

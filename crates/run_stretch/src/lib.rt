@@ -1,5 +1,8 @@
 // A stretch of a table's instructions on the round's bytes, up to the first that may not run: with the depth of the
 // evaluation stack by value, and with its word in the round.
+
+#![tactic(auto)]
+
 ghost use Rattle.std.specs.Prelude.{◌≡◌, ◌+◌, ◌≤◌, ◌<◌, length};
 ghost use Rattle.lib_word.specs.Word.{get};
 ghost use Rattle.format_layout.specs.Round.{call_result};

@@ -1,4 +1,7 @@
 // Which rounds are foreign: 01's conditions, on the round's bytes beside the table's.
+
+#![tactic(auto)]
+
 ghost use Rattle.std.specs.Prelude.{◌≡◌, true, ◌≤◌, length};
 ghost use Rattle.lib_word.specs.Halves.{swap_bytes};
 ghost use Rattle.format_layout.specs.Layout.{event_word, running_flag, running_word, running_event, position};

@@ -1,5 +1,8 @@
 // A sheet's fields: their tags and sizes, and the reader of one field (01, "The sheet"). The value is a part of the
 // caller's own sheet; where the reader refuses, an empty part, its number from a call beside it.
+
+#![tactic(auto)]
+
 ghost use Rattle.std.specs.Prelude.{◌≡◌, ◌≤◌, ◌-◌, length};
 ghost use Rattle.sheet_field.specs.Field.{field_of, part_of, field_size, field_refusal, FieldWithin};
 ghost use Rattle.sheet_field.specs.Header.{header_of, HeaderWithin};

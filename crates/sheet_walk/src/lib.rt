@@ -2,6 +2,9 @@
 // several, how many behaviours a field stands for; and, byte by byte, which is a tag and which the number of a name or
 // a parameter. Time: a field is passed in one step. A place is how many bytes stand before it; a byte past the end
 // counts as 0.
+
+#![tactic(auto)]
+
 ghost use Rattle.std.specs.Prelude.{◌≡◌, ◌<◌, ◌≤◌, ◌+◌, length, get_or, drop};
 ghost use Rattle.sheet_walk.specs.Fields.{after_field, word_in_front, past_fields, cells_in_front};
 ghost use Rattle.sheet_walk.specs.Scanner.{until_tag, left_after, tag_after, is_number};

@@ -1,5 +1,8 @@
 // Writing a sheet's fields into a buffer (01, "The sheet"). Each is written from place n on where it fits, and not at
 // all where it does not: the caller counts its bytes.
+
+#![tactic(auto)]
+
 ghost use Rattle.std.specs.Prelude.{◌≡◌, [], ◌∷◌, ◌≤◌, ◌<◌, ◌+◌, length};
 ghost use Rattle.std.proofs.lemmas.List.Edits.{sets};
 ghost use Rattle.spec_language.specs.Grammar.{field, word};

@@ -1,6 +1,9 @@
 // A sheet's text becomes its bytes at the start of a lent buffer: 2 ^ 32 and their number, or the first fault by kind,
 // line and column. A formula may name what is declared behind it: a look over the text tells the names that it seems to
 // declare, and then it is read with these known. Where it turns out to declare others, it is read again with those.
+
+#![tactic(auto)]
+
 ghost use Rattle.std.specs.Prelude.{◌≡◌, ◌<◌, ◌≤◌, ◌+◌, length};
 ghost use Rattle.text_formula.specs.Answer.{answered};
 ghost use Rattle.source_language.specs.Reader.{read_text};

@@ -1,5 +1,8 @@
 // Behaviours, and a whole sheet's text, read from left to right; the sheet's bytes written on the way. Time: one pass
 // over the text, and each name is compared with those before it.
+
+#![tactic(auto)]
+
 ghost use Rattle.std.specs.Prelude.{◌≡◌, ◌≤◌, length, take};
 ghost use Rattle.lib_base.specs.Basics.{All};
 ghost use Rattle.source_language.specs.Reader.{read_text};

@@ -1,5 +1,8 @@
 // A behaviour's body, which is what stands behind its name and count, read from left to right, and its field written.
 // Time: one pass over the text, and each name is compared with those declared.
+
+#![tactic(auto)]
+
 ghost use Rattle.std.specs.Prelude.{◌≡◌, ◌≤◌, ◌<◌, ◌+◌, ◌*◌, length};
 ghost use Rattle.source_coding.specs.Places.{tokens_from};
 ghost use Rattle.source_names.specs.Known.{meaning_by};

@@ -1,6 +1,9 @@
 // Declarations of a sheet's text before its behaviours: parameters and events, and who may send or see. The places of
 // the names go to lent arrays, the events' fields to the sheet's bytes. Time: one pass over the text, and each name is
 // compared with those before it.
+
+#![tactic(auto)]
+
 ghost use Rattle.std.specs.Prelude.{◌≡◌, [], ◌∷◌, ◌||◌, ℕ, ◌≤◌, ◌+◌, ◌*◌, ◌/◌, ◌%◌, length, set, eqb};
 ghost use Rattle.std.proofs.lemmas.List.Edits.{sets};
 ghost use Rattle.lib_bits.specs.Bits.{bit};

@@ -3,6 +3,9 @@
 // text at once. Time: each walk is one pass over the bytes, the handlers' twice; before it, one pass to count the
 // parameters, and one over the behaviours' fields that notes the first cell of each behaviour's row, so that a name is
 // looked up. Places are those of sheet_walk.
+
+#![tactic(auto)]
+
 ghost use Rattle.std.specs.Prelude.{◌≡◌, [], ◌∷◌, ◌<◌, ◌≤◌, ◌%◌, eqb, length, drop, replicate};
 ghost use Rattle.lib_base.specs.Basics.{pick};
 ghost use Rattle.back_compile.specs.Number.{number_on};

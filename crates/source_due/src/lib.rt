@@ -1,4 +1,7 @@
 // What is due at a place of a text: a sign, a name, a number up to a bound, a constant.
+
+#![tactic(auto)]
+
 ghost use Rattle.std.specs.Prelude.{◌≡◌, ◌≤◌, ◌<◌, ◌+◌, ◌*◌, ◌-◌, ◌%◌, length};
 ghost use Rattle.source_language.specs.Tokens.{end_sign};
 ghost use Rattle.source_tokens.specs.Token.{TokenAt, TokenWithin};

@@ -1,4 +1,7 @@
 // A formula that is read: its field's bytes are counted whatever fits, and written where they do.
+
+#![tactic(auto)]
+
 ghost use Rattle.std.specs.Prelude.{◌≡◌, ◌≤◌, length};
 ghost use Rattle.source_coding.specs.FaultWords.{first_fault};
 ghost use Rattle.source_field.specs.Fields.{under_by, applied_by, headed_in, Headable};

@@ -1,6 +1,9 @@
 // A formula of a sheet's text: read, its names looked up, and written as an expression field, in one walk. Each call
 // among these functions has less room to nest in, or the same and a lower place in the list: at most 16 formulas are
 // one inside another. Brackets are counted and cost no call.
+
+#![tactic(auto)]
+
 ghost use Rattle.std.specs.Prelude.{◌≡◌, ◌≤◌, ◌<◌, ◌-◌, length};
 ghost use Rattle.lib_base.specs.Basics.{All};
 ghost use Rattle.source_language.specs.Tokens.{end_sign};

@@ -1,5 +1,8 @@
 // The handlers of one behaviour, read from left to right, and their fields written. Time: one pass over the text, and
 // each event's name is compared with those declared.
+
+#![tactic(auto)]
+
 ghost use Rattle.std.specs.Prelude.{◌≡◌, ◌≤◌, ◌<◌, ◌+◌, ◌*◌, length};
 ghost use Rattle.source_coding.specs.Places.{tokens_from};
 ghost use Rattle.source_names.specs.Known.{meaning_by};

@@ -1,5 +1,8 @@
 // The names that a text seems to declare, by a look at the words that declare. This is a hint: nothing is promised
 // but that it can be used, and who uses it goes by what the whole text turns out to declare.
+
+#![tactic(auto)]
+
 ghost use Rattle.std.specs.Prelude.{true, ◌≡◌, ◌≤◌, ◌<◌, ◌+◌, length};
 ghost use Rattle.lib_base.specs.Basics.{All};
 ghost use Rattle.source_hint.specs.Hint.{SeenWithin, HintUsable, HintRight};

@@ -1,5 +1,8 @@
 // The names that a text declares, brought into order so that each is found by halves. Whether all of them are is tried
 // afterwards: whoever uses the order goes by the trial, and not by how it was made.
+
+#![tactic(auto)]
+
 ghost use Rattle.std.specs.Prelude.{true, ◌≡◌, ℕ, ◌≤◌, ◌<◌, ◌-◌, length, get_or};
 ghost use Rattle.lib_base.specs.Basics.{All};
 ghost use Rattle.source_coding.specs.Places.{name_at};

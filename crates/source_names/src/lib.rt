@@ -1,5 +1,8 @@
 // Names by the places where they stand in a text: whether two are the same, and which of several is one. The bytes of
 // the name that is looked up are counted once.
+
+#![tactic(auto)]
+
 ghost use Rattle.std.specs.Prelude.{true, ◌≡◌, ◌+◌, ◌≤◌, ◌<◌, length, get_or, eqb};
 ghost use Rattle.source_language.specs.Tokens.{same};
 ghost use Rattle.source_language.specs.Limits.{among};

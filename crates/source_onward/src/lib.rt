@@ -1,4 +1,7 @@
 // How a formula of a sheet's text goes on: the brackets before its first operand, and what follows an operand.
+
+#![tactic(auto)]
+
 ghost use Rattle.std.specs.Prelude.{false, ◌≡◌, ◌+◌, ◌≤◌, ◌<◌, length, get_or};
 ghost use Rattle.source_language.specs.Tokens.{in_word};
 ghost use Rattle.source_coding.specs.Places.{tokens_from};

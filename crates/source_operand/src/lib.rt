@@ -1,5 +1,8 @@
 // The operands of a formula that have no parts: constants, names and cells of rows. Each is read, a name looked up, and
 // its field written where it fits.
+
+#![tactic(auto)]
+
 ghost use Rattle.std.specs.Prelude.{◌≡◌, ℕ, ◌≤◌, ◌<◌, List, length, get_or};
 ghost use Rattle.lib_base.specs.Basics.{All};
 ghost use Rattle.source_language.specs.Meaning.{NameMeaning, a_row, name_term, cell_term};

@@ -1,5 +1,8 @@
 // The tokens of a text, written one after the other: what stands before each, and its bytes. A byte that is past the
 // end of the buffer is counted and not written, so an empty buffer serves to count.
+
+#![tactic(auto)]
+
 ghost use Rattle.std.specs.Prelude.{◌≡◌, [], ◌∷◌, ◌++◌, ◌<◌, ◌≤◌, ◌+◌, length, drop};
 ghost use Rattle.lib_signature.specs.Signature.{last};
 ghost use Rattle.source_language.specs.Tokens.{number, name, sign, opening, end_sign};

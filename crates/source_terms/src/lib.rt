@@ -1,5 +1,8 @@
 // An expression's bytes written as text: each token is handed to the pen, unless the text is over its length; which
 // first cell a name has is looked up. Time: one pass over the expression's bytes.
+
+#![tactic(auto)]
+
 ghost use Rattle.std.specs.Prelude.{◌≡◌, [], ◌∷◌, ◌<◌, ◌≤◌, leb, length, drop};
 ghost use Rattle.lib_signature.specs.Signature.{level as tightness, last};
 ghost use Rattle.source_language.specs.Tokens.{number, name, sign, opening, end_sign};

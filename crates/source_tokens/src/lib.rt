@@ -1,4 +1,7 @@
 // The token at a place of a text: docs/SHEETS.md "Tokens".
+
+#![tactic(auto)]
+
 ghost use Rattle.std.specs.Prelude.{true, false, ◌≡◌, [], ◌∷◌, ◌≤◌, ◌<◌, ◌+◌, length, get_or, take, drop};
 ghost use Rattle.lib_base.specs.Basics.{pick};
 ghost use Rattle.source_language.specs.Tokens.{marks, reserved, sign_of, is_digit, is_letter, in_word, is_blank, in_comment};

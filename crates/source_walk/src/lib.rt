@@ -1,6 +1,9 @@
 // What describing a sheet asks of its behaviours as a whole: the first cell of each behaviour's row, and how many
 // parameters they need. Time: first cells are noted in one pass over the behaviours' fields, parameters counted in one
 // over their bytes. Places are those of sheet_walk.
+
+#![tactic(auto)]
+
 ghost use Rattle.std.specs.Prelude.{◌≡◌, ◌<◌, ◌≤◌, length, get_or, drop};
 ghost use Rattle.source_walk.specs.Fields.{needed_after, needed_in};
 ghost use Rattle.source_walk.specs.Heads.{OwnFrom, CellsNoted, HeadsOf};

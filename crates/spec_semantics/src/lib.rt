@@ -1,1 +1,4 @@
 // Definitions and theorems only: the meaning of one event. They stand in specs/.
+
+#![tactic(auto)]
+

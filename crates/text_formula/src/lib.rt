@@ -1,2 +1,5 @@
 // Formulas as texts and what they answer (02, M-105): definitions in specs/; the numbers of tokens, for the code, here.
+
+#![tactic(auto)]
+
 pub mod tokens;

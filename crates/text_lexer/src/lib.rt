@@ -1,4 +1,7 @@
 // The tokens of a formula: a number for each, from left to right, in a lent array.
+
+#![tactic(auto)]
+
 ghost use Rattle.std.specs.Prelude.{◌≡◌, ◌<◌, ◌≤◌, length, drop};
 ghost use Rattle.text_formula.specs.Reader.{name_of, marked_of, word_token, first_of};
 ghost use Rattle.text_lexer.specs.Codes.{found};

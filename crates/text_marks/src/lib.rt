@@ -1,4 +1,7 @@
 // What the readers of a formula alone and of a sheet's text share: bytes, digits, numbers and the marks of a formula.
+
+#![tactic(auto)]
+
 ghost use Rattle.std.specs.Prelude.{◌≡◌, [], ◌∷◌, ◌≤◌, ◌*◌, ◌+◌, length, get_or, drop};
 ghost use Rattle.lib_base.specs.Words.{decimal_base, word_values};
 ghost use Rattle.text_formula.specs.Reader.{digit_of};

@@ -2,6 +2,9 @@
 // call back to the first. Each call has fewer tokens left, or as many and a lower level. What is read is written to
 // `out` from place n on, as an expression field. The frames of these functions are what a nested bracket costs in
 // stack: `out` is lent as an array, one pointer, and one reading `r` is kept in each.
+
+#![tactic(auto)]
+
 ghost use Rattle.std.specs.Prelude.{◌≡◌, ◌<◌, ◌≤◌, ◌*◌, ◌+◌, length};
 ghost use Rattle.text_parser.specs.Parser.{Reading, ReadWithin, ChoiceRead, Argued, ArgumentIn, FieldRoom};
 ghost use Rattle.lib_signature.specs.Levels.{conjunction, disjunction, equality};

@@ -1,5 +1,8 @@
 // What stands at a place of a formula's tokens, and what a reading has come to: the parts of the level functions that
 // do not call them.
+
+#![tactic(auto)]
+
 ghost use Rattle.std.specs.Prelude.{◌≡◌, ◌<◌, ◌≤◌, ◌+◌, length};
 ghost use Rattle.text_phrase.specs.Phrase.{level_code, level_in, mark_code, bracket_at, under_of, closed_of, wrapped_in, ended_in, leaf_read, leaf_out, Closable};
 ghost use Rattle.sheet_field.specs.Sizes.{longest_value};

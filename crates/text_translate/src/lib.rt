@@ -1,5 +1,8 @@
 // A formula's text becomes an expression field at the start of a lent buffer: 21, 22, 9 and 23, or 2 ^ 32 and the
 // field's length.
+
+#![tactic(auto)]
+
 ghost use Rattle.std.specs.Prelude.{◌≡◌, ◌<◌, ◌≤◌, ◌+◌, length};
 ghost use Rattle.text_formula.specs.Answer.{answered};
 ghost use Rattle.text_formula.specs.Formula.{formula_on};
