@@ -9,4 +9,4 @@ add_spec =
     tie.close
     (tie.spec
     (λ c κs. search rules)
-    (λ c. sum (view _ (omega arith)) (view _ (omega arith)) _ c.wrapping-add-u32.ensures))
+    (λ c. sum (view _ (omega arith)) (view _ (omega arith)) _ c.wrapping_add_u32.ensures))

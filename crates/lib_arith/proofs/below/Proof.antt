@@ -12,7 +12,7 @@ below_spec =
     (λ c.
     rw (
       c.before.whole.ensures,
-      c.whole2.ensures,
+      c.whole-2.ensures,
       number_back (view c.before.before.args.a (omega arith)),
       number_back (view c.before.before.args.b (omega arith)),
     )))

@@ -7,27 +7,27 @@ use Rattle.lib_arith.proofs.divide.Statement.{statement}
 use Rattle.lib_arith.proofs.divide.Tie as tie
 use Rattle.lib_arith.proofs.Laws.{view, same_low, low_high, high_low, same_high}
 
-returns : tie.Need-returns
-returns c = rw (c.if1.true, floor_by_zero (signed c.before.args.a))
+returns : tie.Need-returns-then-b-eq0
+returns c = rw (c.if-b-eq0.true, floor_by_zero (signed c.before.args.a))
 
-returns_2 : tie.Need-returns-2
+returns_2 : tie.Need-returns-then-b-lt-NEGATIVE
 returns_2 c =
     same_low (view c.before.before.before.args.a (omega arith))
     (view c.before.before.before.args.b (omega arith)) (omega arith) (omega arith)
 
-returns_3 : tie.Need-returns-3
+returns_3 : tie.Need-returns-then-a-lt-NEGATIVE
 returns_3 c =
     let at_entry_lem = c.before.before.before.before in
     low_high (view at_entry_lem.args.a (omega arith)) (view at_entry_lem.args.b (omega arith)) (omega arith)
-    (omega arith) _ (omega arith) c.wrapping-sub-u32.ensures
+    (omega arith) _ (omega arith) c.wrapping_sub_u32.ensures
 
-returns_4 : tie.Need-returns-4
+returns_4 : tie.Need-returns-then-b-lt-NEGATIVE-2
 returns_4 c =
     let at_entry_lem = c.before.before.before.before in
     high_low (view at_entry_lem.args.a (omega arith)) (view at_entry_lem.args.b (omega arith)) (omega arith)
-    (omega arith) (omega arith) _ (omega arith) c.wrapping-sub-u322.ensures
+    (omega arith) (omega arith) _ (omega arith) c.wrapping_sub_u32-then-b-lt-NEGATIVE-2.ensures
 
-returns_5 : tie.Need-returns-5
+returns_5 : tie.Need-returns
 returns_5 c =
     same_high (view c.before.before.before.args.a (omega arith))
     (view c.before.before.before.args.b (omega arith)) (omega arith) (omega arith)

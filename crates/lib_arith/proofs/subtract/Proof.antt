@@ -9,4 +9,4 @@ subtract_spec =
     tie.close
     (tie.spec
     (λ c κs. search rules)
-    (λ c. less (view _ (omega arith)) (view _ (omega arith)) _ (omega arith) c.wrapping-sub-u32.ensures))
+    (λ c. less (view _ (omega arith)) (view _ (omega arith)) _ (omega arith) c.wrapping_sub_u32.ensures))

@@ -11,7 +11,7 @@ whole_spec =
     (tie.spec (search rules) (search rules) (search rules)
     (λ c.
     let v = view c.before.args.a (omega arith) in
-    rw (shifted v _ c.wrapping-add-u32.ensures) (number_fits v))
+    rw (shifted v _ c.wrapping_add_u32.ensures) (number_fits v))
     (λ c.
     let v = view c.before.args.a (omega arith) in
-    rw (shifted v _ c.wrapping-add-u32.ensures) (number_back v)))
+    rw (shifted v _ c.wrapping_add_u32.ensures) (number_back v)))
