@@ -15,7 +15,7 @@ marked_product_spec =
     (λ c.
     let u = view c.before.before.before.args.a (omega arith) in
     let v = view c.before.before.before.args.b (omega arith) in
-    rw (c.before.whole.ensures, c.whole2.ensures, number_back u, number_back v) (product_fits u v))
+    rw (c.before.whole.ensures, c.whole-2.ensures, number_back u, number_back v) (product_fits u v))
     (search rules) (search rules)
     (λ c.
     let numbers = c.before.before in
@@ -24,9 +24,9 @@ marked_product_spec =
     let v = view entry.args.b (omega arith) in
     rw (
       c.mark.ensures,
-      c.before.is-beyond.ensures,
+      c.before.is_beyond.ensures,
       numbers.before.whole.ensures,
-      numbers.whole2.ensures,
+      numbers.whole-2.ensures,
       number_back u,
       number_back v,
       to_z-of_z {w = w64} (product_fits u v),

@@ -10,4 +10,4 @@ quotient_spec =
     (λ c κs. search rules)
     (λ c κs. search rules)
     (λ c κs. search rules)
-    (λ c. cc (c.mark.ensures, c.before.quotient-differs.ensures, c.before.before.divide.ensures)))
+    (λ c. cc (c.mark.ensures, c.before.quotient_differs.ensures, c.before.before.divide.ensures)))

@@ -9,6 +9,6 @@ pub quotient_differs_spec : {M : Type 1} → statement M
 quotient_differs_spec =
     tie.close
     (tie.spec
-    (λ c. rw c.if1.true)
+    (λ c. rw c.if-b-eq0.true)
     (λ c. rw (ne_eqb c.before.before.args.b 0 (omega arith)) (quotient_by_minus_one (view c.before.before.args.a (omega arith)) (view c.before.before.args.b (omega arith)) (omega arith)))
     (λ c. rw (ne_eqb c.before.before.args.b 0 (omega arith)) (quotient_within (view c.before.before.args.a (omega arith)) (view c.before.before.args.b (omega arith)) (omega arith) (omega arith))))
