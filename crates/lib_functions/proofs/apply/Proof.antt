@@ -11,71 +11,71 @@ use Rattle.lib_arith.proofs.ArithLaws.{beyond_pos}
 use Rattle.lib_functions.proofs.apply.Statement.{statement}
 use Rattle.lib_functions.proofs.apply.Tie as tie
 
-returns : tie.Need-returns
+returns : tie.Need-returns-in-1
 unfolding marked_result over result_of exact
-returns c = rw c.before.match.keys1 c.either.ensures
+returns c = rw c.before.in_default.keys1 c.either.ensures
 
-returns_2 : tie.Need-returns-2
+returns_2 : tie.Need-returns-in-2
 unfolding marked_result over result_of exact
-returns_2 c = rw c.before.match.keys2 c.both.ensures
+returns_2 c = rw c.before.in_default.keys2 c.both.ensures
 
-returns_3 : tie.Need-returns-3
+returns_3 : tie.Need-returns-in-3
 unfolding marked_result over result_of exact
-returns_3 c = rw c.before.match.keys3 c.opposite.ensures
+returns_3 c = rw c.before.in_default.keys3 c.opposite.ensures
 
-returns_4 : tie.Need-returns-4
+returns_4 : tie.Need-returns-in-4
 unfolding marked_result over result_of exact
-returns_4 c = rw c.before.match.keys4 c.marked-sum.ensures
+returns_4 c = rw c.before.in_default.keys4 c.marked_sum.ensures
 
-returns_5 : tie.Need-returns-5
+returns_5 : tie.Need-returns-in-5
 unfolding marked_result over result_of exact
-returns_5 c = rw c.before.match.keys5 c.marked-difference.ensures
+returns_5 c = rw c.before.in_default.keys5 c.marked_difference.ensures
 
-returns_6 : tie.Need-returns-6
+returns_6 : tie.Need-returns-in-6
 unfolding marked_result over result_of exact
-returns_6 c = rw c.before.match.keys6 c.marked-product.ensures
+returns_6 c = rw c.before.in_default.keys6 c.marked_product.ensures
 
-returns_7 : tie.Need-returns-7
+returns_7 : tie.Need-returns-in-7
 unfolding marked_result over result_of exact
-returns_7 c = rw c.before.match.keys7 c.quotient.ensures
+returns_7 c = rw c.before.in_default.keys7 c.quotient.ensures
 
-returns_8 : tie.Need-returns-8
+returns_8 : tie.Need-returns-in-8
 unfolding marked_result over result_of exact
 returns_8 c =
-    rw c.before.before.match.keys8 (c.truth.ensures ∙ ap (λ (t : Bool). reported (truth t))
+    rw c.before.before.in_default.keys8 (c.truth.ensures ∙ ap (λ (t : Bool). reported (truth t))
     c.before.below.ensures)
 
-returns_9 : tie.Need-returns-9
+returns_9 : tie.Need-returns-in-9
 unfolding marked_result over result_of exact
 returns_9 c =
-    rw c.before.before.match.keys9 (c.truth2.ensures ∙ ap (λ (t : Bool). reported (truth (not t)))
-    c.before.below2.ensures)
+    rw c.before.before.in_default.keys9 (c.truth-in-9.ensures ∙ ap (λ (t : Bool). reported (truth (not t)))
+    c.before.below-in-9.ensures)
 
-returns_10 : tie.Need-returns-10
+returns_10 : tie.Need-returns-in-10
 unfolding marked_result over result_of exact
 returns_10 c =
-    rw c.before.before.match.keys10 (c.truth3.ensures ∙ ap (λ (t : Bool). reported (truth t))
-    c.before.below3.ensures)
+    rw c.before.before.in_default.keys10 (c.truth-in-10.ensures ∙ ap (λ (t : Bool). reported (truth t))
+    c.before.below-in-10.ensures)
 
-returns_11 : tie.Need-returns-11
+returns_11 : tie.Need-returns-in-11
 unfolding marked_result over result_of exact
 returns_11 c =
-    rw c.before.before.match.keys11 (c.truth4.ensures ∙ ap (λ (t : Bool). reported (truth (not t)))
-    c.before.below4.ensures)
+    rw c.before.before.in_default.keys11 (c.truth-in-11.ensures ∙ ap (λ (t : Bool). reported (truth (not t)))
+    c.before.below-in-11.ensures)
 
-returns_12 : tie.Need-returns-12
+returns_12 : tie.Need-returns-in-12
 unfolding marked_result over result_of exact
-returns_12 c = rw c.before.match.keys12 c.same.ensures
+returns_12 c = rw c.before.in_default.keys12 c.same.ensures
 
-returns_13 : tie.Need-returns-13
+returns_13 : tie.Need-returns-in-13
 unfolding marked_result over result_of exact
-returns_13 c = rw c.before.match.keys13 c.differ.ensures
+returns_13 c = rw c.before.in_default.keys13 c.differ.ensures
 
-returns_14 : tie.Need-returns-14
+returns_14 : tie.Need-returns-in-14
 unfolding marked_result over result_of exact
-returns_14 c = rw c.before.match.keys14 c.choose.ensures
+returns_14 c = rw c.before.in_default.keys14 c.choose.ensures
 
-returns_15 : tie.Need-returns-15
+returns_15 : tie.Need-returns-in_default
 unfolding marked_result over result_of exact
 returns_15 c =
     let none : pos 0 ≡ exact c.before.args.f (signed c.before.args.a) (signed c.before.args.b)

@@ -9,5 +9,5 @@ both_spec =
     tie.close
     (tie.spec
     (λ c κs. search rules)
-    (λ c. and_first_false c.before.args.a c.before.args.b c.if1.true)
-    (λ c. and_first_true c.before.before.args.a c.before.before.args.b _ c.before.if1.false c.truth.ensures))
+    (λ c. and_first_false c.before.args.a c.before.args.b c.if-a-eq0.true)
+    (λ c. and_first_true c.before.before.args.a c.before.before.args.b _ c.before.if-a-eq0.false c.truth.ensures))

@@ -8,5 +8,5 @@ pub choose_spec : {M : Type 1} → statement M
 choose_spec =
     tie.close
     (tie.spec
-    (λ c. third_if c.before.args.a c.before.args.b c.before.args.c c.if1.true (omega arith))
-    (λ c. second_if c.before.args.a c.before.args.b c.before.args.c c.if1.false (omega arith)))
+    (λ c. third_if c.before.args.a c.before.args.b c.before.args.c c.if-a-eq0.true (omega arith))
+    (λ c. second_if c.before.args.a c.before.args.b c.before.args.c c.if-a-eq0.false (omega arith)))

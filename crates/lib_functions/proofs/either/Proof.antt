@@ -9,5 +9,5 @@ either_spec =
     tie.close
     (tie.spec
     (λ c κs. search rules)
-    (λ c. or_first_false c.before.before.args.a c.before.before.args.b _ c.before.if1.true c.truth.ensures)
-    (λ c. or_first_true c.before.args.a c.before.args.b c.if1.false))
+    (λ c. or_first_false c.before.before.args.a c.before.before.args.b _ c.before.if-a-eq0.true c.truth.ensures)
+    (λ c. or_first_true c.before.args.a c.before.args.b c.if-a-eq0.false))

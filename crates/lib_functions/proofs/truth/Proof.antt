@@ -5,4 +5,4 @@ use Rattle.lib_functions.proofs.truth.Tie as tie
 
 pub truth_spec : {M : Type 1} → statement M
 unfolding beyond
-truth_spec = tie.close (tie.spec (λ c. rw c.if1.true) (λ c. rw c.if1.false))
+truth_spec = tie.close (tie.spec (λ c. rw c.if-t.true) (λ c. rw c.if-t.false))
