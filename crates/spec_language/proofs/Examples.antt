@@ -344,6 +344,7 @@ nots_fit zero = t_literal {w = 1} (omega arith)
 nots_fit (suc n) = t_apply1 unary (nots_fit n)
 
 too_deep_law : (n : ℕ) → TermFits n (nots n) → ⊥
+too_deep_law zero h = elim h [ ]
 too_deep_law (suc n) (t_apply1 a h) = too_deep_law n h
 
 pub nesting : ItemFits 0 (formula (nots 15)) × (ItemFits 0 (formula (nots 16)) → ⊥)

@@ -50,14 +50,14 @@ mentions j (app3 f a b c) = mentions j a || (mentions j b || mentions j c)
 
 -- "for an event, a passive depends on every name in it, an active with an immediate handler on every name but its own,
 -- other actives on nothing"
-abbrev pub rules : ℕ → ℕ → Response → Bool
-rules i j (follows x) = mentions j x
-rules i j (takes x) = mentions j x && not (eqb i j)
-rules i j (defers x) = false
-rules i j keeps = false
+abbrev pub needs : ℕ → ℕ → Response → Bool
+needs i j (follows x) = mentions j x
+needs i j (takes x) = mentions j x && not (eqb i j)
+needs i j (defers x) = false
+needs i j keeps = false
 
 abbrev pub depends_on : Program → ℕ → ℕ → ℕ → Bool
-depends_on p e i j = rules i j (response p e i)
+depends_on p e i j = needs i j (response p e i)
 
 -- reached by a chain of dependence
 pub data Reach (dep : ℕ → ℕ → Bool) (a : ℕ) : ℕ → Type 0 where
