@@ -35,10 +35,10 @@ table_fits_spec =
     (tie.spec
     (λ c. told _ (search code depth 12))
     (λ c κs. search rules)
-    (λ c. told _ (many_events _ (search rules) c.before.get-word.ensures (search rules)))
+    (λ c. told _ (many_events _ (search rules) c.before.get_word-events.ensures (search rules)))
     (λ c κs. search rules)
-    (λ c. told _ (many_behaviours _ (search rules) c.before.before.before.get-word.ensures (search rules) c.before.get-word2.ensures (search rules)))
+    (λ c. told _ (many_behaviours _ (search rules) c.before.before.before.get_word-events.ensures (search rules) c.before.get_word.ensures (search rules)))
     (λ c κs. search rules)
     (λ c.
     told _
-    (few _ (search rules) c.before.before.before.before.get-word.ensures (search rules) c.before.before.get-word2.ensures (search rules) c.codes-fit.ensures)))
+    (few _ (search rules) c.before.before.before.before.get_word-events.ensures (search rules) c.before.before.get_word.ensures (search rules) c.codes_fit.ensures)))
