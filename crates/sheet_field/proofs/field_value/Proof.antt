@@ -16,13 +16,13 @@ field_value_spec =
     (λ c. search rules)
     (λ c. search rules)
     (λ c.
-    let e = sym c.before.enum_told.given.1 ∙ c.before.before.before.field-answer.ensures.0 in
+    let e = sym c.before.enum_told-1.given.1 ∙ c.before.before.before.field_answer.ensures.0 in
     (ap (part_of _) e, (ap field_size e, omega arith)))
-    (λ c. omega (arith, rw c.before.n.given.1 at c.before.before.before.field-answer.ensures.1))
+    (λ c. omega (arith, rw c.before.n-1.given.1 at c.before.before.before.field_answer.ensures.1))
     (λ c. search rules)
     (λ c. search rules)
-    (λ c. rw c.before.n.given.1 at c.before.before.before.field-answer.ensures.1)
+    (λ c. rw c.before.n-1.given.1 at c.before.before.before.field_answer.ensures.1)
     (λ c.
-    let e = sym c.before.before.n.given.1 ∙ c.before.before.before.before.field-answer.ensures.0 in
-    let h = rw c.before.before.n.given.1 at c.before.before.before.before.field-answer.ensures.1 in
-    (rw add-sub_cancel (ap (part_of _) e), (omega (arith, c.result2.given, ap field_size e), omega (arith, c.result2.given)))))
+    let e = sym c.before.before.n-1.given.1 ∙ c.before.before.before.before.field_answer.ensures.0 in
+    let h = rw c.before.before.n-1.given.1 at c.before.before.before.before.field_answer.ensures.1 in
+    (rw add-sub_cancel (ap (part_of _) e), (omega (arith, c.result-2-1.given, ap field_size e), omega (arith, c.result-2-1.given)))))
