@@ -2,4 +2,3 @@
 // stand in specs/.
 
 #![tactic(auto)]
-
