@@ -17,10 +17,10 @@ close_all_spec =
     invariant-loop
     decreases-loop
     (λ c. closing_start _ _ c.before.requires.1)
-    (λ c κs. let p = c.before.before.before.before.requires in (c.before.before.loop.invariant.long ∙ p.0, c.before.loop-test.true, p.1))
+    (λ c κs. let p = c.before.before.before.before.requires in (c.before.before.loop-k.invariant.long ∙ p.0, c.before.loop-k-test.true, p.1))
     (λ c. omega arith)
     (λ c. omega arith)
-    (λ c. closing_turn c.before.before.before.before.before.loop.invariant c.before.before.before.before.before.before.before.requires.1
-    c.before.before.before.before.loop-test.true c.before.before.pass.ensures)
-    (λ c. c.before.loop.invariant.long)
-    (λ c. closing_end c.before.loop.invariant c.loop-test.false))
+    (λ c. closing_turn c.before.before.before.before.before.loop-k.invariant c.before.before.before.before.before.before.before.requires.1
+    c.before.before.before.before.loop-k-test.true c.before.before.pass.ensures)
+    (λ c. c.before.loop-k.invariant.long)
+    (λ c. closing_end c.before.loop-k.invariant c.loop-k-test.false))

@@ -38,21 +38,21 @@ invariant-loop rows set n i₀ i = Turn (bytes_of rows) (marks_of set) n i
 abbrev decreases-loop : tie.decreases-loop
 decreases-loop rows set n i₀ i = n - i
 
-returns : tie.Need-returns invariant-loop decreases-loop
+returns : tie.Need-returns-then-is_ready invariant-loop decreases-loop
 returns c =
     let at_loop = c.before.before.before.before in
-    stop at_loop.loop.invariant (omega arith) (sym (ready_is _ _ _ (omega arith) _ at_loop.before.before.requires.1
-    (omega (arith, at_loop.before.shared-slice-known.given at_loop.loop.i))
-    (λ j b. at_loop.before.before.requires.2.none_past _ j (omega arith) b)) ∙ sym c.before.is-ready.ensures ∙
-    c.if1.true)
+    stop at_loop.loop-i.invariant (omega arith) (sym (ready_is _ _ _ (omega arith) _ at_loop.before.before.requires.1
+    (omega (arith, at_loop.before.shared_slice_known-1.given at_loop.loop-i.i))
+    (λ j b. at_loop.before.before.requires.2.none_past _ j (omega arith) b)) ∙ sym c.before.is_ready.ensures ∙
+    c.if-is_ready.true)
 
-loop_again : tie.Need-loop-preserved invariant-loop decreases-loop
+loop_again : tie.Need-loop-i-preserved invariant-loop decreases-loop
 loop_again c =
     let at_loop = c.before.before.before.before in
-    turn at_loop.loop.invariant (omega arith) (sym (ready_is _ _ _ (omega arith) _ at_loop.before.before.requires.1
-    (omega (arith, at_loop.before.shared-slice-known.given at_loop.loop.i))
-    (λ j b. at_loop.before.before.requires.2.none_past _ j (omega arith) b)) ∙ sym c.before.is-ready.ensures ∙
-    c.if1.false)
+    turn at_loop.loop-i.invariant (omega arith) (sym (ready_is _ _ _ (omega arith) _ at_loop.before.before.requires.1
+    (omega (arith, at_loop.before.shared_slice_known-1.given at_loop.loop-i.i))
+    (λ j b. at_loop.before.before.requires.2.none_past _ j (omega arith) b)) ∙ sym c.before.is_ready.ensures ∙
+    c.if-is_ready.false)
 
 pub find_next_spec : {M : Type 1} → statement M
 find_next_spec =
@@ -60,4 +60,4 @@ find_next_spec =
     (tie.spec invariant-loop decreases-loop
     (λ c. start _ _ _)
     (omega arith) (omega arith) (omega arith) returns (omega arith) (omega arith) loop_again
-    (λ c. end c.before.loop.invariant (omega arith)))
+    (λ c. end c.before.loop-i.invariant (omega arith)))

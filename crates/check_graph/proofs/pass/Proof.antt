@@ -10,10 +10,10 @@ invariant-loop rows₀ k n through i₀ rows i = Passing rows₀ k n rows i
 abbrev decreases-loop : tie.decreases-loop
 decreases-loop rows₀ k n through i₀ rows i = n - i
 
-loop_again : tie.Need-loop-preserved invariant-loop decreases-loop
+loop_again : tie.Need-loop-i-preserved invariant-loop decreases-loop
 loop_again c =
     let p = c.before.before.before.before.before.before.requires in
-    passing_turn c.before.before.before.loop.invariant p.0 p.2 c.before.before.loop-test.true refl c.taken_in.ensures
+    passing_turn c.before.before.before.loop-i.invariant p.0 p.2 c.before.before.loop-i-test.true refl c.taken_in.ensures
 
 pub pass_spec : {M : Type 1} → statement M
 pass_spec =
@@ -25,12 +25,12 @@ pass_spec =
     (λ c. omega arith)
     (λ c. passing_start _ _ _)
     (λ c. omega arith)
-    (λ c. omega (arith, c.before.before.loop.invariant.long))
+    (λ c. omega (arith, c.before.before.loop-i.invariant.long))
     (λ c κs. omega arith)
     (λ c. omega arith)
-    (λ c. omega (arith, c.before.before.before.loop.invariant.long))
+    (λ c. omega (arith, c.before.before.before.loop-i.invariant.long))
     (λ c. omega arith)
     (λ c. omega arith)
     loop_again
-    (λ c. c.before.loop.invariant.long)
-    (λ c. passing_end c.before.loop.invariant c.loop-test.false))
+    (λ c. c.before.loop-i.invariant.long)
+    (λ c. passing_end c.before.loop-i.invariant c.loop-i-test.false))

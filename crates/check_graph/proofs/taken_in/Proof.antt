@@ -10,7 +10,7 @@ taken_in_spec =
     (tie.spec
     (λ c κs. search rules)
     (λ c κs. search rules)
-    (λ c. let h : bit c.before.before.before.args.row c.before.before.before.args.k ≡ true = sym c.before.before.contains.ensures ∙ c.before.if1.true in
-    record { each = λ b. c.union-of.ensures b ∙ rw h refl })
-    (λ c. let h : bit c.before.before.args.row c.before.before.args.k ≡ false = sym c.before.contains.ensures ∙ c.if1.false in
+    (λ c. let h : bit c.before.before.before.args.row c.before.before.before.args.k ≡ true = sym c.before.before.contains.ensures ∙ c.before.if-contains.true in
+    record { each = λ b. c.union_of.ensures b ∙ rw h refl })
+    (λ c. let h : bit c.before.before.args.row c.before.before.args.k ≡ false = sym c.before.contains.ensures ∙ c.if-contains.false in
     record { each = λ b. rw h (sym (or-false (bit c.before.before.args.row b))) }))
