@@ -1,4 +1,3 @@
 // Definitions and theorems only: specs/.
 
 #![tactic(auto)]
-
