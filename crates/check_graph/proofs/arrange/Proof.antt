@@ -50,10 +50,10 @@ next : (s s' : ℕ) {m marks₀ : List ℕ} {n : ℕ} {out₀ out : List ℕ} {c
     → f ≡ find_on m (marks_of s) n n 0 → f < n → n ≤ 64 → ((j : ℕ) → bit s' j ≡ bit s j || eqb j f) → Turn m marks₀ n out₀ (marks_of s') (set out count f) (count + 1)
 next s s' {f = f} t h e b few q = rw (← marks_set s s' f (omega arith) q) (turn t h e b)
 
-abbrev invariant-loop : tie.invariant-loop
+abbrev invariant-loop : tie.invariant-loop-count
 invariant-loop rows met n out₀ set₀ count₀ out set count = Turn (bytes_of rows) (marks_of met) n out₀ (marks_of set) out count
 
-abbrev decreases-loop : tie.decreases-loop
+abbrev decreases-loop : tie.decreases-loop-count
 decreases-loop rows met n out₀ set₀ count₀ out set count = n - count
 
 pub arrange_spec : {M : Type 1} → statement M

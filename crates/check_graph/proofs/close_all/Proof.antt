@@ -4,10 +4,10 @@ use Rattle.check_graph.proofs.Passes.{Closing, closing_start, closing_turn, clos
 use Rattle.check_graph.proofs.close_all.Statement.{statement}
 use Rattle.check_graph.proofs.close_all.Tie as tie
 
-abbrev invariant-loop : tie.invariant-loop
+abbrev invariant-loop : tie.invariant-loop-k
 invariant-loop rows₀ n k₀ rows k = Closing rows₀ n rows k
 
-abbrev decreases-loop : tie.decreases-loop
+abbrev decreases-loop : tie.decreases-loop-k
 decreases-loop rows₀ n k₀ rows k = n - k
 
 pub close_all_spec : {M : Type 1} → statement M

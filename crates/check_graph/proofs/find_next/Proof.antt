@@ -32,10 +32,10 @@ end {n} {i} t h = let s : n - i ≡ 0 = omega arith in rw s at t.whole
 start : (m marks : List ℕ) (n : ℕ) → Turn m marks n 0
 start m marks n = record { whole = rw sub-zero; within = omega arith }
 
-abbrev invariant-loop : tie.invariant-loop
+abbrev invariant-loop : tie.invariant-loop-i
 invariant-loop rows set n i₀ i = Turn (bytes_of rows) (marks_of set) n i
 
-abbrev decreases-loop : tie.decreases-loop
+abbrev decreases-loop : tie.decreases-loop-i
 decreases-loop rows set n i₀ i = n - i
 
 returns : tie.Need-returns-then-is_ready invariant-loop decreases-loop

@@ -4,10 +4,10 @@ use Rattle.check_graph.proofs.Passes.{Passing, passing_start, passing_turn, pass
 use Rattle.check_graph.proofs.pass.Statement.{statement}
 use Rattle.check_graph.proofs.pass.Tie as tie
 
-abbrev invariant-loop : tie.invariant-loop
+abbrev invariant-loop : tie.invariant-loop-i
 invariant-loop rows₀ k n through i₀ rows i = Passing rows₀ k n rows i
 
-abbrev decreases-loop : tie.decreases-loop
+abbrev decreases-loop : tie.decreases-loop-i
 decreases-loop rows₀ k n through i₀ rows i = n - i
 
 loop_again : tie.Need-loop-i-preserved invariant-loop decreases-loop
