@@ -101,6 +101,7 @@ module _ (p : Program) where
 
     from_rest : (w : Engine) → AtRest w → Leading w × (left w ≡ steps_of p (in_queue w))
     from_rest (engine t waiting rest d) h = (tt, refl)
+    from_rest (engine t waiting (busy a c) d) h = elim h [ ]
 
     pub quiet_from : (w : Engine) → Reached p w → AtRest w → (ds : List Call) → number (run p ds w) ≡ number w
         → (step_count ds < steps_of p (in_queue w) → Idle p (run p ds w) → ⊥) × (steps_of p (in_queue w) ≤ step_count ds → Idle p (run p ds w))
