@@ -9,5 +9,5 @@ add_leading_spec =
     (tie.spec
     (λ c κs. tt)
     (λ c κs. omega arith)
-    (λ c x. rw (sym c.before.before.is-common.ensures ∙ c.before.if1.true) (c.insert.ensures x))
-    (λ c x. rw (sym c.before.is-common.ensures ∙ c.if1.false) (sym (or-false _))))
+    (λ c x. rw (sym c.before.before.is_common.ensures ∙ c.before.if-is_common.true) (c.insert.ensures x))
+    (λ c x. rw (sym c.before.is_common.ensures ∙ c.if-is_common.false) (sym (or-false _))))

@@ -23,5 +23,5 @@ leading_to_spec =
     (λ c κs. omega arith)
     (λ c. omega arith)
     (λ c. omega arith)
-    (λ c. let p = c.before.before.before.before.before.requires in led_turn _ _ p.1 p.2 c.before.before.before.loop.invariant (omega arith) c.add-leading.ensures)
-    (λ c. led_end c.before.loop.invariant (omega arith)))
+    (λ c. let p = c.before.before.before.before.before.requires in led_turn _ _ p.1 p.2 c.before.before.before.loop-j.invariant (omega arith) c.add_leading-found.ensures)
+    (λ c. led_end c.before.loop-j.invariant (omega arith)))
