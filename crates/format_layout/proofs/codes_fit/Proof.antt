@@ -1,6 +1,6 @@
 -- `codes_fit` is `codes_fit`: the loop keeps that the first i events decide: `codes_fit t n ≡ codes_fit t i`.
-use Rattle.lib_base.proofs.Prelude.{ℕ, ◌≤◌, ◌<◌, ◌-◌, suc, zero, ◌≡◌, refl, ◌∙◌, sym, true, false, Bool, List, not-true}
-use Rattle.lib_base.proofs.Prelude.{not-false, arith}
+use Rattle.lib_base.proofs.Prelude.{ℕ, ◌≤◌, ◌<◌, ◌-◌, suc, zero, ◌≡◌, refl, ◌∙◌, sym, true, false, Bool, List}
+use Rattle.lib_base.proofs.Prelude.{arith}
 use Rattle.lib_base.specs.Basics.{pick}
 use Rattle.format_layout.specs.Layout.{event_word}
 use Rattle.format_layout.specs.Foreign.{code_fits, codes_fit}
@@ -26,10 +26,10 @@ end : {t : List ℕ} {n i : ℕ} → Turn t n i → i ≤ 0 → true ≡ codes_f
 unfolding codes_fit
 end {t} {n} {i} k h = let z : i ≡ 0 = omega arith in sym (rw z at k.whole)
 
-abbrev invariant-loop : tie.invariant-loop
+abbrev invariant-loop : tie.invariant-loop-i
 invariant-loop t n i₀ i = Turn t n i
 
-abbrev decreases-loop : tie.decreases-loop
+abbrev decreases-loop : tie.decreases-loop-i
 decreases-loop t n i₀ i = i
 
 pub codes_fit_spec : {M : Type 1} → statement M
@@ -43,7 +43,7 @@ codes_fit_spec =
     (λ c κs. omega arith)
     (λ c κs. omega arith)
     (λ c κs. tt)
-    (λ c. fails c.before.before.before.before.before.loop-i.invariant (omega arith) c.before.before.before.event_word_law.ensures c.before.before.event_word-in-loop-i.ensures c.before.code_fits.ensures (not-true _ c.if-not-code_fits.true))
+    (λ c. fails c.loop-i.invariant (omega arith) c.event_word.ensures c.event_word-in-loop-i.ensures c.code_fits.ensures c.if-not-code_fits.true)
     (λ c. omega arith)
-    (λ c. turn c.before.before.before.before.before.loop-i.invariant (omega arith) c.before.before.before.event_word_law.ensures c.before.before.event_word-in-loop-i.ensures c.before.code_fits.ensures (not-false _ c.if-not-code_fits.false))
-    (λ c. end c.before.loop-i.invariant c.loop-i-test.false))
+    (λ c. turn c.loop-i.invariant (omega arith) c.event_word.ensures c.event_word-in-loop-i.ensures c.code_fits.ensures c.if-not-code_fits.false)
+    (λ c. end c.loop-i.invariant c.loop-i-test.false))
