@@ -16,13 +16,13 @@ pub bit_spec : {M : Type 1} → statement M
 bit_spec =
     tie.close
     (tie.spec
-    (λ c. power 0 1 c.match.keys1 refl (omega arith))
-    (λ c. power 1 2 c.match.keys2 refl (omega arith))
-    (λ c. power 2 4 c.match.keys3 refl (omega arith))
-    (λ c. power 3 8 c.match.keys4 refl (omega arith))
-    (λ c. power 4 16 c.match.keys5 refl (omega arith))
-    (λ c. power 5 32 c.match.keys6 refl (omega arith))
-    (λ c. power 6 64 c.match.keys7 refl (omega arith))
+    (λ c. power 0 1 c.in-0.is refl (omega arith))
+    (λ c. power 1 2 c.in-1.is refl (omega arith))
+    (λ c. power 2 4 c.in-2.is refl (omega arith))
+    (λ c. power 3 8 c.in-3.is refl (omega arith))
+    (λ c. power 4 16 c.in-4.is refl (omega arith))
+    (λ c. power 5 32 c.in-5.is refl (omega arith))
+    (λ c. power 6 64 c.in-6.is refl (omega arith))
     (λ c.
     let r = c.match.rest in
     power 7 128 (seven c.before.args.n c.before.requires (low c.before.args.n r.0.0.0.0.0.0.1 r.0.0.0.0.0.1 r.0.0.0.0.1 r.0.0.0.1) r.0.0.1 r.0.1 r.1) refl (omega arith)))

@@ -10,4 +10,4 @@ may_see_spec =
     (λ c. search rules)
     (λ c κs. search rules)
     (λ c κs. search rules)
-    (λ c. cc (c.before.get-word.ensures, c.is-permitted.ensures)))
+    (λ c. cc (c.before.get_word.ensures, c.is_permitted.ensures)))
