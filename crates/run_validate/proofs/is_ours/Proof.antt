@@ -50,15 +50,15 @@ unfolding round_in round_with
 fits t l {k} {n} {d} j e h f g p q r = rw (← j, ← e, ← f, le-ltb 64 n h, le-ltb 64 d g, ← p, q) r
 
 -- where the table fits
-module _ (c : tie.Else1) where
+module _ (c : tie.Else-not-table_fits) where
   abbrev entry : tie.Start
   entry = c.before.before.before.before
 
   table_bounds : TableBounds entry.args.table.now
-  table_bounds = c.before.table_fits.ensures.1 (not-false _ c.if1.false)
+  table_bounds = c.before.table_fits.ensures.1 (not-false _ c.if-not-table_fits.false)
 
 -- and the round is long enough: what is left is told of it
-module _ (c : tie.Else2) where
+module _ (c : tie.Else-round-lt-BYTES) where
   abbrev t : List ℕ
   t = (entry c.before).args.table.now
 
@@ -67,43 +67,43 @@ module _ (c : tie.Else2) where
 
   inside : {x : Bool} → x ≡ round_in t l → (x ≡ ours t l) × (x ≡ true → Bounds t l)
   inside q =
-      told _ _ (opened _ _ c.before.before.table_fits.ensures.0 (not-false _ c.before.if1.false)
-      c.if2.false q)
+      told _ _ (opened _ _ c.before.before.table_fits.ensures.0 (not-false _ c.before.if-not-table_fits.false)
+      c.if-round-lt-BYTES.false q)
 
-returns_4 : tie.Need-returns-4
+returns_4 : tie.Need-returns-then-get_word-gt-STACK
 returns_4 c =
-    inside c.before.before.before.before.before (deep _ _ c.before.before.before.get-word2.ensures
-    c.before.before.if3.false c.before.get-word3.ensures c.if4.true)
+    inside c.before.before.before.before.before (deep _ _ c.before.before.before.get_word-waiting.ensures
+    c.before.before.if-waiting-gt-QUEUE.false c.before.get_word.ensures c.if-get_word-gt-STACK.true)
 
-returns_5 : tie.Need-returns-5
+returns_5 : tie.Need-returns-then-not-running_fits
 returns_5 c =
     let shallow = c.before.before in
     let long = shallow.before.before.before.before.before in
-    inside long (runs_badly _ _ shallow.before.before.before.before.get-word.ensures
-    shallow.before.before.before.get-word2.ensures shallow.before.before.if3.false
-    shallow.before.get-word3.ensures shallow.if4.false c.before.running_fits_law.ensures
-    (not-true _ c.if5.true))
+    inside long (runs_badly _ _ shallow.before.before.before.before.get_word-known.ensures
+    shallow.before.before.before.get_word-waiting.ensures shallow.before.before.if-waiting-gt-QUEUE.false
+    shallow.before.get_word.ensures shallow.if-get_word-gt-STACK.false c.before.running_fits_law.ensures
+    (not-true _ c.if-not-running_fits.true))
 
-returns_6 : tie.Need-returns-6
+returns_6 : tie.Need-returns
 returns_6 c =
     let shallow = c.before.before.before in
     let long = shallow.before.before.before.before.before in
-    inside long (fits _ _ shallow.before.before.before.before.get-word.ensures
-    shallow.before.before.before.get-word2.ensures shallow.before.before.if3.false
-    shallow.before.get-word3.ensures shallow.if4.false c.before.before.running_fits_law.ensures
-    (not-false _ c.before.if5.false) c.slots_fit_law.ensures)
+    inside long (fits _ _ shallow.before.before.before.before.get_word-known.ensures
+    shallow.before.before.before.get_word-waiting.ensures shallow.before.before.if-waiting-gt-QUEUE.false
+    shallow.before.get_word.ensures shallow.if-get_word-gt-STACK.false c.before.before.running_fits_law.ensures
+    (not-false _ c.before.if-not-running_fits.false) c.slots_fit_law.ensures)
 
 pub is_ours_spec : {M : Type 1} → statement M
 is_ours_spec =
     tie.close
     (tie.spec (search rules)
-    (λ c. told _ _ (bad_table _ _ c.before.table_fits.ensures.0 (not-true _ c.if1.true)))
+    (λ c. told _ _ (bad_table _ _ c.before.table_fits.ensures.0 (not-true _ c.if-not-table_fits.true)))
     (λ c.
-    told _ _ (short _ _ c.before.before.table_fits.ensures.0 (not-false _ c.before.if1.false)
-    c.if2.true))
+    told _ _ (short _ _ c.before.before.table_fits.ensures.0 (not-false _ c.before.if-not-table_fits.false)
+    c.if-round-lt-BYTES.true))
     (λ c κs. let h = table_bounds c.before in search rules)
     (search rules)
-    (λ c. inside c.before.before.before (many _ _ c.before.get-word2.ensures c.if3.true))
+    (λ c. inside c.before.before.before (many _ _ c.before.get_word-waiting.ensures c.if-waiting-gt-QUEUE.true))
     (search rules) returns_4
     (λ c κs. let h = table_bounds c.before.before.before.before.before.before in search rules)
     returns_5 (search rules) (search rules) returns_6)

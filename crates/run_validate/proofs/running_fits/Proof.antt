@@ -35,24 +35,24 @@ runs t l n known {f} {g} {w} e h k p q r s o m =
     let j : n ≤ 63 = omega arith in
     rw (← e, z, le-ltb 63 n j, ← o, ← m, ← s, ← p, ← q, r)
 
-returns_3 : tie.Need-returns-3
+returns_3 : tie.Need-returns-then-not-hand_fits
 returns_3 c =
     let at_if1 = c.before.before.before.before in
-    unknown _ _ _ _ _ at_if1.before.get-word.ensures at_if1.if1.false (search rules)
-    c.before.before.get-little.ensures c.before.hand_fits_law.ensures (not-true _ c.if3.true)
+    unknown _ _ _ _ _ at_if1.before.get_word.ensures at_if1.if-get_word-eq0.false (search rules)
+    c.before.before.get_little-swapped.ensures c.before.hand_fits_law.ensures (not-true _ c.if-not-hand_fits.true)
 
-returns_4 : tie.Need-returns-4
+returns_4 : tie.Need-returns
 returns_4 c =
     let at_little = c.before.before.before.before.before in
-    runs _ _ _ _ at_little.before.before.before.get-word.ensures at_little.before.before.if1.false
-    (search rules) at_little.get-little.ensures c.before.before.before.before.hand_fits_law.ensures
-    (not-false _ c.before.before.before.if3.false) c.get-word2.ensures
+    runs _ _ _ _ at_little.before.before.before.get_word.ensures at_little.before.before.if-get_word-eq0.false
+    (search rules) at_little.get_little-swapped.ensures c.before.before.before.before.hand_fits_law.ensures
+    (not-false _ c.before.before.before.if-not-hand_fits.false) c.get_word-2.ensures
     c.before.before.event_at_law.ensures c.before.event_word_law.ensures
 
 pub running_fits_spec : {M : Type 1} → statement M
 running_fits_spec =
     tie.close
     (tie.spec (search rules)
-    (λ c. none _ _ _ _ _ c.before.get-word.ensures c.if1.true)
-    (λ c. no_room _ _ _ _ _ c.before.before.get-word.ensures c.before.if1.false (search rules))
+    (λ c. none _ _ _ _ _ c.before.get_word.ensures c.if-get_word-eq0.true)
+    (λ c. no_room _ _ _ _ _ c.before.before.get_word.ensures c.before.if-get_word-eq0.false (search rules))
     (search rules) (search rules) (search rules) returns_3 (search rules) (search rules) (search rules) returns_4)

@@ -31,10 +31,10 @@ turn {l} {known} {n} {i} {w} {fit} {x} k h d e = record {
   within = omega arith;
 }
 
-abbrev invariant-loop : tie.invariant-loop
+abbrev invariant-loop : tie.invariant-loop-i
 invariant-loop l known n fit₀ i₀ fit i = Turn l known n fit i
 
-abbrev decreases-loop : tie.decreases-loop
+abbrev decreases-loop : tie.decreases-loop-i
 decreases-loop l known n fit₀ i₀ fit i = n - i
 
 pub slots_fit_spec : {M : Type 1} → statement M
@@ -51,7 +51,7 @@ slots_fit_spec =
     (λ c κs. search rules)
     (λ c. omega arith)
     (λ c. omega arith)
-    (λ c. turn c.before.before.before.loop.invariant (omega arith) c.before.get-little.ensures c.hand_fits_law.ensures)
+    (λ c. turn c.before.before.before.loop-i.invariant (omega arith) c.before.get_little-swapped.ensures c.hand_fits_law.ensures)
     (λ c.
-    let e : c.before.loop.i ≡ c.before.before.before.args.n = omega arith in
-    rw e at c.before.loop.invariant.same))
+    let e : c.before.loop-i.i ≡ c.before.before.before.args.n = omega arith in
+    rw e at c.before.loop-i.invariant.same))
