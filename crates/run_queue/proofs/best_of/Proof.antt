@@ -55,22 +55,22 @@ module _ {t l : List ℕ} {n b q m i p k : ℕ} {x : Bool} (u : Turn t l n b q m
 end : {t l : List ℕ} {n b q m i : ℕ} → Turn t l n b q m i → n ≤ i → b ≡ best t l n
 end {t} {l} {n} {b} {q} {m} {i} u h = let e : i ≡ n = omega arith in rw e at u.same
 
-abbrev invariant-loop : tie.invariant-loop
+abbrev invariant-loop : tie.invariant-loop-i
 invariant-loop t l n b₀ q₀ m₀ i₀ b q m i = Turn t l n b q m i
 
-abbrev decreases-loop : tie.decreases-loop
+abbrev decreases-loop : tie.decreases-loop-i
 decreases-loop t l n b₀ q₀ m₀ i₀ b q m i = n - i
 
-again : tie.Need-loop-preserved invariant-loop decreases-loop
+again : tie.Need-loop-i-preserved invariant-loop decreases-loop
 again c =
     let slot = c.before.before in
-    let u = slot.before.before.before.loop.invariant in
-    let f = slot.before.priority-at2.ensures in
-    let g = slot.get-word2.ensures in
+    let u = slot.before.before.before.loop-i.invariant in
+    let f = slot.before.priority_at-priority.ensures in
+    let g = slot.get_word-number.ensures in
     ⊎_elim
-    (λ w. rw (w.1, w.2, w.3) (taken u (omega arith) (omega arith) f g c.before.is-ahead.ensures w.0.taken))
-    (λ w. rw (w.1, w.2, w.3) (left u (omega arith) (omega arith) f g c.before.is-ahead.ensures w.0.left))
-    c.if1.branch
+    (λ w. rw (w.1, w.2, w.3) (taken u (omega arith) (omega arith) f g c.before.is_ahead.ensures w.0.taken))
+    (λ w. rw (w.1, w.2, w.3) (left u (omega arith) (omega arith) f g c.before.is_ahead.ensures w.0.left))
+    c.if-is_ahead.branch
 
 pub best_of_spec : {M : Type 1} → statement M
 best_of_spec =
@@ -82,15 +82,15 @@ best_of_spec =
     (λ c κs. omega arith)
     (λ c. record {
       same = first_best _ _;
-      priority = c.before.priority-at.ensures;
-      number = c.get-word.ensures;
+      priority = c.before.priority_at-best_priority.ensures;
+      number = c.get_word-best_number.ensures;
       small = omega arith;
       begun = omega arith;
       within = omega arith;
     })
     (λ c κs.
     let p = c.before.before.before.before.before.before.requires in
-    (p.0, p.1, omega arith, p.4 _ c.loop-test.true))
+    (p.0, p.1, omega arith, p.4 _ c.loop-i-test.true))
     (λ c. omega arith)
     (λ c. omega arith)
     (λ c κs. omega arith)
@@ -98,4 +98,4 @@ best_of_spec =
     (λ c. omega arith)
     (λ c. omega arith)
     again
-    (λ c. (end c.before.loop.invariant c.loop-test.false, c.before.loop.invariant.small)))
+    (λ c. (end c.before.loop-i.invariant c.loop-i-test.false, c.before.loop-i.invariant.small)))

@@ -20,6 +20,6 @@ pub is_ahead_spec : {M : Type 1} → statement M
 is_ahead_spec =
     tie.close
     (tie.spec
-    (λ c. lower _ _ _ _ c.if1.true)
-    (λ c. higher _ _ _ _ c.if2.true)
-    (λ c. equal _ _ _ _ c.before.if1.false c.if2.false))
+    (λ c. lower _ _ _ _ c.if-p-q.true)
+    (λ c. higher _ _ _ _ c.if-q-p.true)
+    (λ c. equal _ _ _ _ c.before.if-p-q.false c.if-q-p.false))

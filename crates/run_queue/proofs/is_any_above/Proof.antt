@@ -32,10 +32,10 @@ end : {t l : List ℕ} {p n i : ℕ} → Turn t l p n i → i ≤ 0 → false �
 unfolding any_above
 end {t} {l} {p} {n} {i} k h = let z : i ≡ 0 = omega arith in sym (rw z at k.whole)
 
-abbrev invariant-loop : tie.invariant-loop
+abbrev invariant-loop : tie.invariant-loop-i
 invariant-loop t l p n i₀ i = Turn t l p n i
 
-abbrev decreases-loop : tie.decreases-loop
+abbrev decreases-loop : tie.decreases-loop-i
 decreases-loop t l p n i₀ i = i
 
 pub is_any_above_spec : {M : Type 1} → statement M
@@ -49,7 +49,7 @@ is_any_above_spec =
     (λ c κs.
     let p = c.before.before.before.before.requires in
     (p.0, p.1, omega arith, p.3 _ (omega arith)))
-    (λ c. found c.before.before.before.loop.invariant (omega arith) c.before.priority-at.ensures c.if1.true)
+    (λ c. found c.before.before.before.loop-i.invariant (omega arith) c.before.priority_at.ensures c.if-p-priority_at.true)
     (λ c. omega arith)
-    (λ c. turn c.before.before.before.loop.invariant (omega arith) c.before.priority-at.ensures c.if1.false)
-    (λ c. end c.before.loop.invariant c.loop-test.false))
+    (λ c. turn c.before.before.before.loop-i.invariant (omega arith) c.before.priority_at.ensures c.if-p-priority_at.false)
+    (λ c. end c.before.loop-i.invariant c.loop-i-test.false))

@@ -17,4 +17,4 @@ priority_at_spec =
     (λ c. omega (arith, c.event_at_law.ensures, c.before.before.before.requires.3))
     (λ c. omega (arith, c.event_at_law.ensures, c.before.before.before.requires.3))
     (λ c κs. omega (arith, c.event_at_law.ensures, c.before.before.before.requires.0, c.before.before.before.requires.3))
-    (λ c. of_record _ c.before.before.before.before.requires.3 c.before.event_at_law.ensures c.get-word.ensures))
+    (λ c. of_record _ c.before.before.before.before.requires.3 c.before.event_at_law.ensures c.get_word.ensures))
