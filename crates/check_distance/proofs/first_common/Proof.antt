@@ -5,10 +5,10 @@ use Rattle.check_distance.proofs.LayerLaws.{Passed, passed_start, passed_turn, p
 use Rattle.check_distance.proofs.first_common.Statement.{statement}
 use Rattle.check_distance.proofs.first_common.Tie as tie
 
-abbrev invariant-loop : tie.invariant-loop
+abbrev invariant-loop : tie.invariant-loop-h
 invariant-loop a b n both h₀ h = Passed (λ x. bit a x && bit b x) n h
 
-abbrev decreases-loop : tie.decreases-loop
+abbrev decreases-loop : tie.decreases-loop-h
 decreases-loop a b n both h₀ h = n - h
 
 pub first_common_spec : {M : Type 1} → statement M

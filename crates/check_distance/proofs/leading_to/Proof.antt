@@ -5,10 +5,10 @@ use Rattle.check_distance.proofs.LayerLaws.{Led, led_start, led_turn, led_end}
 use Rattle.check_distance.proofs.leading_to.Statement.{statement}
 use Rattle.check_distance.proofs.leading_to.Tie as tie
 
-abbrev invariant-loop : tie.invariant-loop
+abbrev invariant-loop : tie.invariant-loop-j
 invariant-loop rows set n found₀ j₀ found j = Led (bytes_of rows) n set found j
 
-abbrev decreases-loop : tie.decreases-loop
+abbrev decreases-loop : tie.decreases-loop-j
 decreases-loop rows set n found₀ j₀ found j = n - j
 
 pub leading_to_spec : {M : Type 1} → statement M
