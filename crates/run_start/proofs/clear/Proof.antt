@@ -26,10 +26,10 @@ turn {l₀} {l} {m} {i} k h e = record {
 end : {l₀ l : List ℕ} {i : ℕ} → Turn l₀ l i → 512 ≤ i → l ≡ cleared l₀ 512
 end {i} k h = let z : i ≡ 512 = omega arith in rw z at k.same
 
-abbrev invariant-loop : tie.invariant-loop
+abbrev invariant-loop : tie.invariant-loop-i
 invariant-loop l₀ i₀ l i = Turn l₀ l i
 
-abbrev decreases-loop : tie.decreases-loop
+abbrev decreases-loop : tie.decreases-loop-i
 decreases-loop l₀ i₀ l i = 512 - i
 
 pub clear_spec : {M : Type 1} → statement M
@@ -42,6 +42,6 @@ clear_spec =
     (λ c κs. omega arith)
     (λ c. omega arith)
     (λ c. omega arith)
-    (λ c. turn c.before.before.before.before.before.loop.invariant (omega arith) c.before.before.put_word.ensures)
-    (λ c. c.before.loop.invariant.long)
-    (λ c. end c.before.loop.invariant c.loop-test.false))
+    (λ c. turn c.before.before.before.before.before.loop-i.invariant (omega arith) c.before.before.put_word.ensures)
+    (λ c. c.before.loop-i.invariant.long)
+    (λ c. end c.before.loop-i.invariant c.loop-i-test.false))

@@ -26,10 +26,10 @@ turn {t} {a} {i} {w} k h e = record {
 end : {t a : List ℕ} {i : ℕ} → Turn t a i → 64 ≤ i → a ≡ values_in t (replicate 64 0) 64
 end {i} k h = let z : i ≡ 64 = omega arith in rw z at k.same
 
-abbrev invariant-loop : tie.invariant-loop
+abbrev invariant-loop : tie.invariant-loop-i
 invariant-loop t a₀ i₀ a i = Turn t a i
 
-abbrev decreases-loop : tie.decreases-loop
+abbrev decreases-loop : tie.decreases-loop-i
 decreases-loop t a₀ i₀ a i = 64 - i
 
 pub first_values_spec : {M : Type 1} → statement M
@@ -45,5 +45,5 @@ first_values_spec =
     (λ c. omega arith)
     (λ c. omega arith)
     (λ c. omega arith)
-    (λ c. turn c.before.before.loop.invariant (omega arith) c.get-word.ensures)
-    (λ c. end c.before.loop.invariant c.loop-test.false))
+    (λ c. turn c.before.before.loop-i.invariant (omega arith) c.get_word.ensures)
+    (λ c. end c.before.loop-i.invariant c.loop-i-test.false))

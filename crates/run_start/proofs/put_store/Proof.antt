@@ -26,10 +26,10 @@ turn {ws} {l₀} {l} {m} {i} k h e = record {
 end : {ws l₀ l : List ℕ} {i : ℕ} → Turn ws l₀ l i → 64 ≤ i → l ≡ stored ws l₀ 64
 end {i} k h = let z : i ≡ 64 = omega arith in rw z at k.same
 
-abbrev invariant-loop : tie.invariant-loop
+abbrev invariant-loop : tie.invariant-loop-i
 invariant-loop l₀ ws i₀ l i = Turn ws l₀ l i
 
-abbrev decreases-loop : tie.decreases-loop
+abbrev decreases-loop : tie.decreases-loop-i
 decreases-loop l₀ ws i₀ l i = 64 - i
 
 pub put_store_spec : {M : Type 1} → statement M
@@ -45,6 +45,6 @@ put_store_spec =
     (λ c κs. omega arith)
     (λ c. omega arith)
     (λ c. omega arith)
-    (λ c. turn c.before.before.before.before.before.before.loop.invariant (omega arith) c.before.before.put_word.ensures)
-    (λ c. c.before.loop.invariant.long)
-    (λ c. end c.before.loop.invariant c.loop-test.false))
+    (λ c. turn c.before.before.before.before.before.before.loop-i.invariant (omega arith) c.before.before.put_word.ensures)
+    (λ c. c.before.loop-i.invariant.long)
+    (λ c. end c.before.loop-i.invariant c.loop-i-test.false))

@@ -2,32 +2,32 @@
 -- table's values.
 use Rattle.lib_base.proofs.Prelude.{◌∙◌, ap, not-true, not-false, rules}
 use Rattle.lib_base.proofs.Pick.{code}
-use Rattle.format_layout.specs.declared.round.Round.{Round}
+use Rattle.format_layout.specs.declared.round-1.Round.{Round}
 use Rattle.format_layout.specs.Fresh.{fresh_of}
 use Rattle.run_start.specs.Start.{image, fresh_bytes, start_on}
 use Rattle.run_start.proofs.start_round.Statement.{statement}
 use Rattle.run_start.proofs.start_round.Tie as tie
 
-returns_2 : tie.Need-returns-2
+returns_2 : tie.Need-returns-then-round-lt-BYTES
 unfolding start_on fresh_bytes
 returns_2 c =
     rw (
       ← c.before.before.table_fits.ensures.0,
       not-false c.before.before.table_fits.result
-          c.before.if1.false,
+          c.before.if-not-table_fits.false,
     ) (search code depth 12)
 
-returns_3 : tie.Need-returns-3
+returns_3 : tie.Need-returns
 unfolding start_on fresh_bytes
 returns_3 c =
     let values = c.before.before.before.before.before in
     let fits = values.before.before.before in
     let made = c.before.before.before.before.fresh.ensures ∙ ap fresh_of values.first_values.ensures in
-    let written = c.before.before.write-round.ensures
-    ∙ ap (λ (r : Round). image r fits.before.before.before.args.round.now) made in
+    let written = c.before.before.write_round.ensures
+    ∙ ap (λ (r : Round). image r fits.before.before.before.args.round-1.now) made in
     rw (
       ← fits.table_fits.ensures.0,
-      not-false fits.table_fits.result values.before.before.if1.false,
+      not-false fits.table_fits.result values.before.before.if-not-table_fits.false,
       written,
     ) (search code depth 12)
 
@@ -36,7 +36,7 @@ unfolding start_on fresh_bytes
 start_round_spec =
     tie.close
     (tie.spec (search rules)
-    (λ c. rw (← c.before.table_fits.ensures.0, not-true c.before.table_fits.result c.if1.true))
+    (λ c. rw (← c.before.table_fits.ensures.0, not-true c.before.table_fits.result c.if-not-table_fits.true))
     returns_2
-    (λ c κs. (c.before.before.table_fits.ensures.1 (not-false _ c.before.if1.false)).long)
+    (λ c κs. (c.before.before.table_fits.ensures.1 (not-false _ c.before.if-not-table_fits.false)).long)
     (search rules) (search rules) (search rules) returns_3)

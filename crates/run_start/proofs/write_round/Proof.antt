@@ -12,9 +12,9 @@ returns c =
     rw (
       ← at_put_word.before.before.before.before.clear.ensures,
       ← at_put_word.put_word.ensures,
-      ← at_put_word3.before.before.before.before.put-word2.ensures,
-      ← at_put_word3.put-word3.ensures,
-    ) c.before.before.put-store.ensures
+      ← at_put_word3.before.before.before.before.put_word-2.ensures,
+      ← at_put_word3.put_word-3.ensures,
+    ) c.before.before.put_store.ensures
 
 pub write_round_spec : {M : Type 1} → statement M
 unfolding image
