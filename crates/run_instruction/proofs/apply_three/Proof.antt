@@ -4,13 +4,13 @@ use Rattle.run_instruction.proofs.Arms.{applies_three, too_few_three}
 use Rattle.run_instruction.proofs.apply_three.Statement.{statement}
 use Rattle.run_instruction.proofs.apply_three.Tie as tie
 
-returns_2 : tie.Need-returns-2
+returns_2 : tie.Need-returns
 returns_2 c =
     let called = c.before.before.before.before.before.before in
-    let at = called.call-on.ensures in
-    applies_three _ _ _ (omega arith) called.before.before.before.before.before.before.get-word.ensures
-    called.before.before.before.before.get-word2.ensures
-    called.before.before.get-word3.ensures
+    let at = called.call_on-value.ensures in
+    applies_three _ _ _ (omega arith) called.before.before.before.before.before.before.get_word-x.ensures
+    called.before.before.before.before.get_word-y.ensures
+    called.before.before.get_word-z.ensures
     at.0 at.1 c.before.before.put_word.ensures
 
 pub apply_three_spec : {M : Type 1} → statement M

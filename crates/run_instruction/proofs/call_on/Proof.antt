@@ -10,10 +10,10 @@ call_on_spec =
     (tie.spec
     (λ c κs. search rules)
     (λ c. search rules)
-    (λ c. unmarked _ _ _ _ _ _ c.before.apply.ensures c.if1.true)
+    (λ c. unmarked _ _ _ _ _ _ c.before.apply-answer.ensures c.if-answer-lt-OVER.true)
     (λ c κs. search rules)
-    (λ c. let k = rest_word _ _ _ _ _ c.before.before.before.before.before.apply.ensures c.before.before.before.before.if1.false in search rules)
+    (λ c. let k = rest_word _ _ _ _ _ c.before.before.before.before.before.apply-answer.ensures c.before.before.before.before.if-answer-lt-OVER.false in search rules)
     (λ c. search rules)
     (λ c.
-    let m = marked _ _ _ _ _ _ c.before.before.before.before.before.apply.ensures c.before.before.before.before.if1.false in
+    let m = marked _ _ _ _ _ _ c.before.before.before.before.before.apply-answer.ensures c.before.before.before.before.if-answer-lt-OVER.false in
     (m.0, c.before.before.put_word.ensures ∙ m.1)))

@@ -5,47 +5,47 @@ use Rattle.run_instruction.proofs.Arms.{high_slot, low_slot, no_move}
 use Rattle.run_instruction.proofs.move_on.Statement.{statement}
 use Rattle.run_instruction.proofs.move_on.Tie as tie
 
-returns_2 : tie.Need-returns-2
+returns_2 : tie.Need-returns-in-1
 unfolding moved_word
-returns_2 c = low_slot _ _ _ _ _ (omega arith) (rw c.match.keys1)
+returns_2 c = low_slot _ _ _ _ _ (omega arith) (rw c.in-1.is)
 
-returns_3 : tie.Need-returns-3
+returns_3 : tie.Need-returns-in-2
 unfolding moved_word
-returns_3 c = low_slot _ _ _ _ _ (omega arith) (rw c.match.keys2)
+returns_3 c = low_slot _ _ _ _ _ (omega arith) (rw c.in-2.is)
 
-returns_4 : tie.Need-returns-4
+returns_4 : tie.Need-returns-in-3
 unfolding moved_word
-returns_4 c = low_slot _ _ _ _ _ (omega arith) (rw c.before.before.before.before.match.keys3 c.before.before.transfer-word.ensures)
+returns_4 c = low_slot _ _ _ _ _ (omega arith) (rw c.before.before.before.before.in-3.is c.before.before.transfer_word.ensures)
 
-returns_5 : tie.Need-returns-5
+returns_5 : tie.Need-returns-in-4
 unfolding moved_word
-returns_5 c = low_slot _ _ _ _ _ (omega arith) (rw c.before.before.before.before.match.keys4 c.before.before.transfer-word2.ensures)
+returns_5 c = low_slot _ _ _ _ _ (omega arith) (rw c.before.before.before.before.in-4.is c.before.before.transfer_word-in-4.ensures)
 
-returns_6 : tie.Need-returns-6
+returns_6 : tie.Need-returns-in-5
 unfolding moved_word
-returns_6 c = low_slot _ _ _ _ _ (omega arith) (rw c.before.before.before.before.match.keys5 c.before.before.push.ensures)
+returns_6 c = low_slot _ _ _ _ _ (omega arith) (rw c.before.before.before.before.in-5.is c.before.before.push.ensures)
 
-returns_7 : tie.Need-returns-7
+returns_7 : tie.Need-returns-in-6
 unfolding moved_word
-returns_7 c = low_slot _ _ _ _ _ (omega arith) (rw c.before.before.before.before.match.keys6 c.before.before.push-word.ensures)
+returns_7 c = low_slot _ _ _ _ _ (omega arith) (rw c.before.before.before.before.in-6.is c.before.before.push_word.ensures)
 
-returns_8 : tie.Need-returns-8
+returns_8 : tie.Need-returns-in-7
 unfolding moved_word
-returns_8 c = low_slot _ _ _ _ _ (omega arith) (rw c.before.before.before.before.match.keys7 c.before.before.push-word2.ensures)
+returns_8 c = low_slot _ _ _ _ _ (omega arith) (rw c.before.before.before.before.in-7.is c.before.before.push_word-in-7.ensures)
 
-returns_9 : tie.Need-returns-9
+returns_9 : tie.Need-returns-in-9
 unfolding moved_word
-returns_9 c = low_slot _ _ _ _ _ (omega arith) (rw c.before.before.before.before.match.keys8 c.before.before.pop.ensures)
+returns_9 c = low_slot _ _ _ _ _ (omega arith) (rw c.before.before.before.before.in-9.is c.before.before.pop.ensures)
 
-returns_10 : tie.Need-returns-10
+returns_10 : tie.Need-returns-in-10
 unfolding moved_word
-returns_10 c = low_slot _ _ _ _ _ (omega arith) (rw c.before.before.before.before.match.keys9 c.before.before.pop2.ensures)
+returns_10 c = low_slot _ _ _ _ _ (omega arith) (rw c.before.before.before.before.in-10.is c.before.before.pop-in-10.ensures)
 
-returns_11 : tie.Need-returns-11
+returns_11 : tie.Need-returns-in-11
 unfolding moved_word
-returns_11 c = low_slot _ _ _ _ _ (omega arith) (rw c.before.before.before.before.match.keys10 c.before.before.transfer-word3.ensures)
+returns_11 c = low_slot _ _ _ _ _ (omega arith) (rw c.before.before.before.before.in-11.is c.before.before.transfer_word-in-11.ensures)
 
-returns_12 : tie.Need-returns-12
+returns_12 : tie.Need-returns-in_default
 returns_12 c =
     let m = c.match.rest in
     low_slot _ _ _ _ _ (omega arith)

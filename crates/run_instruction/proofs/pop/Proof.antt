@@ -7,5 +7,5 @@ use Rattle.run_instruction.proofs.pop.Tie as tie
 pub pop_spec : {M : Type 1} → statement M
 pop_spec =
     tie.close (tie.spec (search rules) (search rules) (search rules) (search rules) (search rules)
-    (λ c. pops _ _ _ _ (omega arith) c.before.before.before.before.get-word.ensures c.before.before.put_word.ensures)
+    (λ c. pops _ _ _ _ (omega arith) c.before.before.before.before.get_word-value.ensures c.before.before.put_word.ensures)
     (λ c. empty _ _ _ (omega arith)))

@@ -8,4 +8,4 @@ pub transfer_word_spec : {M : Type 1} → statement M
 unfolding transfer
 transfer_word_spec =
     tie.close (tie.spec (search rules) (search rules) (search rules)
-    (λ c. rw (c.before.before.put_word.ensures, c.before.before.before.before.get-word.ensures)))
+    (λ c. rw (c.before.before.put_word.ensures, c.before.before.before.before.get_word-value.ensures)))
