@@ -11,8 +11,8 @@ events_of_spec =
     tie.close
     (tie.spec
     (λ c κs. search rules)
-    (λ c κs. let h = (c.before.table_fits.ensures.1 c.if1.true).long in search rules)
+    (λ c κs. let h = (c.before.table_fits.ensures.1 c.if-table_fits.true).long in search rules)
     (λ c. search rules)
     (λ c. search rules)
-    (λ c. rw (← c.before.before.table_fits.ensures.0, ← c.get-word.ensures) (search code depth 12))
+    (λ c. rw (← c.before.before.table_fits.ensures.0, ← c.get_word.ensures) (search code depth 12))
     (λ c. rw (← c.before.table_fits.ensures.0) (search code depth 12)))

@@ -11,10 +11,10 @@ rank_of_spec =
     tie.close
     (tie.spec
     (λ c κs. search rules)
-    (λ c. rw (← c.before.table_fits.ensures.0, not-true c.before.table_fits.result c.if1.true))
-    (λ c κs. let h = (c.before.table_fits.ensures.1 (not-false _ c.if1.false)).long in search rules)
-    (λ c. rw (← c.before.before.before.table_fits.ensures.0, not-false c.before.before.before.table_fits.result c.before.before.if1.false, ← c.before.get-word.ensures) (search code depth 12))
-    (λ c κs. let h = (c.before.before.before.table_fits.ensures.1 (not-false _ c.before.before.if1.false)).long in search rules)
+    (λ c. rw (← c.before.table_fits.ensures.0, not-true c.before.table_fits.result c.if-not-table_fits.true))
+    (λ c κs. let h = (c.before.table_fits.ensures.1 (not-false _ c.if-not-table_fits.false)).long in search rules)
+    (λ c. rw (← c.before.before.before.table_fits.ensures.0, not-false c.before.before.before.table_fits.result c.before.before.if-not-table_fits.false, ← c.before.get_word.ensures) (search code depth 12))
+    (λ c κs. let h = (c.before.before.before.table_fits.ensures.1 (not-false _ c.before.before.if-not-table_fits.false)).long in search rules)
     (λ c. search rules)
     (λ c. search rules)
-    (λ c. rw (← c.before.before.before.before.table_fits.ensures.0, not-false c.before.before.before.before.table_fits.result c.before.before.before.if1.false, ← c.before.before.get-word.ensures, ← c.event_word_law.ensures) (search code depth 12)))
+    (λ c. rw (← c.before.before.before.before.table_fits.ensures.0, not-false c.before.before.before.before.table_fits.result c.before.before.before.if-not-table_fits.false, ← c.before.before.get_word.ensures, ← c.event_word_law.ensures) (search code depth 12)))
