@@ -11,11 +11,11 @@ field_answer_spec =
     (λ c κs. search rules)
     (search rules)
     (search rules)
-    (λ c. let q = c.enum_told-1.given.1 in (answer_refused _ _ _ c.before.before.header_answer-a.ensures.0 q, rw q tt))
-    (λ c. omega (arith, rw c.before.a-1.given.1 at c.before.before.before.header_answer-a.ensures.1))
-    (λ c. (answer_torn _ _ _ c.before.before.before.before.header_answer-a.ensures.0 c.before.before.a-1.given.1 c.if-s-n.true, tt))
+    (λ c. let q = c.in_default.is in (answer_refused _ _ _ c.header_answer-a.ensures.0 q, rw q tt))
+    (λ c. omega (arith, rw c.in-Value.is at c.header_answer-a.ensures.1))
+    (λ c. (answer_torn _ _ _ c.header_answer-a.ensures.0 c.in-Value.is c.if-s-n.true, tt))
     (λ c.
-    let at_known = c.before.before in
-    let q = at_known.a-1.given.1 in
-    let h = rw q at at_known.before.before.header_answer-a.ensures.1 in
-    (answer_whole _ _ _ at_known.before.before.header_answer-a.ensures.0 q (omega arith), omega arith)))
+    let at_known = c in
+    let q = at_known.in-Value.is in
+    let h = rw q at at_known.header_answer-a.ensures.1 in
+    (answer_whole _ _ _ at_known.header_answer-a.ensures.0 q (omega arith), omega arith)))

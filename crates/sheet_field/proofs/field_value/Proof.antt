@@ -1,5 +1,5 @@
 -- The part is the one that `part_of` names, within s.
-use Rattle.sheet_field.specs.Field.{part_of, field_size}
+use Rattle.sheet_field.specs.Field.{field_size}
 use Rattle.lib_base.proofs.Prelude.{◌∙◌, sym, ap, rules, arith}
 use native.Mathlib.Nat.{add-sub_cancel}
 use Rattle.sheet_field.proofs.field_value.Statement.{statement}
@@ -16,13 +16,13 @@ field_value_spec =
     (λ c. search rules)
     (λ c. search rules)
     (λ c.
-    let e = sym c.before.enum_told-1.given.1 ∙ c.before.before.before.field_answer.ensures.0 in
-    (ap (part_of _) e, (ap field_size e, omega arith)))
-    (λ c. omega (arith, rw c.before.n-1.given.1 at c.before.before.before.field_answer.ensures.1))
+    let e = sym c.in_default.is ∙ c.field_answer.ensures.0 in
+    (rw (← e), (rw (← e), omega arith)))
+    (λ c. omega (arith, rw c.in-Value.is at c.field_answer.ensures.1))
     (λ c. search rules)
     (λ c. search rules)
-    (λ c. rw c.before.n-1.given.1 at c.before.before.before.field_answer.ensures.1)
+    (λ c. rw c.in-Value.is at c.field_answer.ensures.1)
     (λ c.
-    let e = sym c.before.before.n-1.given.1 ∙ c.before.before.before.before.field_answer.ensures.0 in
-    let h = rw c.before.before.n-1.given.1 at c.before.before.before.before.field_answer.ensures.1 in
-    (rw add-sub_cancel (ap (part_of _) e), (omega (arith, c.result-2-1.given, ap field_size e), omega (arith, c.result-2-1.given)))))
+    let e = sym c.in-Value.is ∙ c.field_answer.ensures.0 in
+    let h = rw c.in-Value.is at c.field_answer.ensures.1 in
+    (rw (← e, add-sub_cancel), (omega (arith, c.result-2-1.given, ap field_size e), omega (arith, c.result-2-1.given)))))
