@@ -24,5 +24,5 @@ bit_spec =
     (λ c. power 5 32 c.in-5.is refl (omega arith))
     (λ c. power 6 64 c.in-6.is refl (omega arith))
     (λ c.
-    let r = c.match.rest in
+    let r = c.in_default.in_default-own.rest in
     power 7 128 (seven c.before.args.n c.before.requires (low c.before.args.n r.0.0.0.0.0.0.1 r.0.0.0.0.0.1 r.0.0.0.0.1 r.0.0.0.1) r.0.0.1 r.0.1 r.1) refl (omega arith)))
