@@ -20,22 +20,22 @@ after_field_spec =
     let known = answered.before.before in
     let entry = known.before in (
       after_refused entry.args.s.now entry.args.at entry.requires
-          (omega (arith, known.shared-slice-known.given entry.args.at)) answered.field-answer.ensures.0 c.enum_told.given.1,
+          (omega (arith, known.shared_slice_known-1.given entry.args.at)) answered.field_answer-a.ensures.0 c.in_default.field-0.1,
       omega arith,
     ))
     (λ c.
     let answered = c.before.before.before in
     let entry = answered.before.before.before in
-    omega (arith, value_fits entry.args.s.now entry.args.at entry.requires answered.field-answer.ensures.1 c.before.a.given.1))
+    omega (arith, value_fits entry.args.s.now entry.args.at entry.requires answered.field_answer-a.ensures.1 c.before.in-Value.n.1))
     (λ c.
     let answered = c.before.before.before in
     let entry = answered.before.before.before in
-    omega (arith, value_fits entry.args.s.now entry.args.at entry.requires answered.field-answer.ensures.1 c.before.a.given.1))
+    omega (arith, value_fits entry.args.s.now entry.args.at entry.requires answered.field_answer-a.ensures.1 c.before.in-Value.n.1))
     (λ c.
     let answered = c.before.before.before in
     let known = answered.before.before in
     let entry = known.before in (
       after_value entry.args.s.now entry.args.at entry.requires
-          (omega (arith, known.shared-slice-known.given entry.args.at)) answered.field-answer.ensures.0 c.before.a.given.1,
-      value_fits entry.args.s.now entry.args.at entry.requires answered.field-answer.ensures.1 c.before.a.given.1,
+          (omega (arith, known.shared_slice_known-1.given entry.args.at)) answered.field_answer-a.ensures.0 c.before.in-Value.n.1,
+      value_fits entry.args.s.now entry.args.at entry.requires answered.field_answer-a.ensures.1 c.before.in-Value.n.1,
     )))

@@ -9,7 +9,7 @@ byte_from_spec =
     tie.close
     (tie.spec
     (λ c. search rules)
-    (λ c. let s = c.before in byte_past s.args.s.now s.args.at s.args.k s.requires c.if1.true)
+    (λ c. let s = c.before in byte_past s.args.s.now s.args.at s.args.k s.requires c.if-s-at.true)
     (λ c. search rules)
     (λ c. search rules)
     (λ c. let s = c.before.before in sym (get_or-drop s.args.at s.args.s.now s.args.k 0)))

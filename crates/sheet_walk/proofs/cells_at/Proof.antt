@@ -11,5 +11,5 @@ cells_at_spec =
     (λ c κs. search rules)
     (λ c κs. search rules)
     (λ c. search rules)
-    (λ c. (rw (← c.before.before.byte-from.ensures) (search code depth 12), omega arith))
-    (λ c. (rw (← c.before.byte-from.ensures) (search code depth 12), omega arith)))
+    (λ c. (rw (← c.before.before.byte_from.ensures) (search code depth 12), omega arith))
+    (λ c. (rw (← c.before.byte_from.ensures) (search code depth 12), omega arith)))

@@ -11,6 +11,6 @@ left_after_spec =
     tie.close
     (tie.spec
     (λ c κs. search rules)
-    (λ c. rw (← c.until-tag.ensures) (search code depth 12))
+    (λ c. rw (← c.until_tag.ensures) (search code depth 12))
     (λ c. search rules)
     (λ c. search code depth 12))

@@ -9,6 +9,6 @@ onward_spec =
     tie.close
     (tie.spec
     (λ c. search rules)
-    (λ c. let s = c.before in (onward_end s.args.s.now s.args.at s.args.n s.requires c.if1.true, omega arith))
+    (λ c. let s = c.before in (onward_end s.args.s.now s.args.at s.args.n s.requires c.if-s-at.true, omega arith))
     (λ c. search rules)
     (λ c. let s = c.before in (sym (drop-drop s.args.n s.args.at s.args.s.now), omega arith)))
