@@ -12,22 +12,22 @@ use Rattle.spec_language.specs.Fits.{Nested, n_con, n_name, n_app1, n_app2, n_ap
 use Rattle.draft_form.specs.Draft.{nodes, handler_nodes, behaviour_nodes, program_nodes}
 use Rattle.draft_form.specs.Entry.{node_tag, node_word}
 use Rattle.check_faults.specs.Faults.{known_in, known_handlers, known_behaviour, known_behaviours}
-use Rattle.check_faults.specs.Checks.{is_unknown, names_known}
+use Rattle.check_faults.specs.Checks.{stray, names_known}
 
 -- none of these nodes has an unknown name
 unfoldable fine : ℕ → List ℕ → Bool
 fine b [] = true
-fine b (x ∷ l) = not (is_unknown x b) && fine b l
+fine b (x ∷ l) = not (stray x b) && fine b l
 
 fine_join : (b : ℕ) (l m : List ℕ) → fine b (l ++ m) ≡ fine b l && fine b m
 unfolding fine
 fine_join b [] m = refl
-fine_join b (x ∷ l) m = rw (fine_join b l m, and_assoc (not (is_unknown x b)) (fine b l) (fine b m))
+fine_join b (x ∷ l) m = rw (fine_join b l m, and_assoc (not (stray x b)) (fine b l) (fine b m))
 
 -- ---- one node
 
-not_unknown : (b x : ℕ) → (node_tag x ≡ 17 → ⊥) → is_unknown x b ≡ false
-unfolding is_unknown
+not_unknown : (b x : ℕ) → (node_tag x ≡ 17 → ⊥) → stray x b ≡ false
+unfolding stray
 not_unknown b x h = rw (ne_eqb (node_tag x) 17 h)
 
 con_fine : (b w : ℕ) → w < 2 ^ 32 → fine b ((68719476736 + w) ∷ []) ≡ true
@@ -44,7 +44,7 @@ not_leb : (i n : ℕ) → not (leb n i) ≡ ltb i n
 not_leb i n = split (ltb i n) (λ t. rw (t, lt-leb n i (ltb-true i n t))) (λ t. rw (t, le-leb n i (ltb-false i n t)))
 
 name_fine : (b i : ℕ) → i < 256 → fine b ((73014444032 + i) ∷ []) ≡ ltb i b
-unfolding fine is_unknown
+unfolding fine stray
 name_fine b i h =
     let t : node_tag (73014444032 + i) ≡ 17 = omega arith in
     let w : node_word (73014444032 + i) ≡ i = omega arith in
@@ -100,9 +100,9 @@ unfolding names_known fine
 pass_fine d b zero h = refl
 pass_fine d b (suc n) h =
     let ih = pass_fine d b n (omega arith) in
-    let e : fine b (take (suc n) d) ≡ fine b (take n d) && not (is_unknown (get_or d n 0) b) =
+    let e : fine b (take (suc n) d) ≡ fine b (take n d) && not (stray (get_or d n 0) b) =
     rw (take-suc d n 0 (omega arith), fine_join b (take n d) (get_or d n 0 ∷ []), fine, and-true) in
-    split (is_unknown (get_or d n 0) b)
+    split (stray (get_or d n 0) b)
     (λ t. rw (e, t, names_known, and-false (fine b (take n d))))
     (λ t. rw (e, t, names_known, and-true) ih)
 

@@ -11,13 +11,13 @@ use Rattle.check_graph.specs.Any.{any_below}
 -- ---- names
 
 -- a node that names none of b behaviours
-unfoldable pub is_unknown : ℕ → ℕ → Bool
-is_unknown x b = pick (eqb (node_tag x) 17) (leb b (node_word x)) false
+unfoldable pub stray : ℕ → ℕ → Bool
+stray x b = pick (eqb (node_tag x) 17) (leb b (node_word x)) false
 
 -- none of the first n nodes is one
 unfoldable pub names_known : List ℕ → ℕ → ℕ → Bool
 names_known d b zero = true
-names_known d b (suc n) = elim (is_unknown (get_or d n 0) b) [ true ↦ false | false ↦ names_known d b n ]
+names_known d b (suc n) = elim (stray (get_or d n 0) b) [ true ↦ false | false ↦ names_known d b n ]
 
 -- ---- the dependence matrix
 

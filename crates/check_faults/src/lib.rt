@@ -10,7 +10,7 @@ ghost use Rattle.lib_bits.specs.Bits.{bit};
 ghost use Rattle.draft_form.specs.Entry.{entry_start, entry_count};
 ghost use Rattle.draft_form.specs.Draft.{draft_length, used_by};
 ghost use Rattle.check_graph.specs.Sets.{RowsBelow};
-ghost use Rattle.check_faults.specs.Checks.{is_unknown, names_known, node_names, some_node_names, needs_on, RowsAre, PlacedOn};
+ghost use Rattle.check_faults.specs.Checks.{stray, names_known, node_names, some_node_names, needs_on, RowsAre, PlacedOn};
 ghost use Rattle.check_faults.specs.Checks.{LowestLeft, LeftClosed, left_round, RoundOn, cyclic_on, RowsInside, AllInside};
 ghost use Rattle.draft_form.specs.Sizes.{draft_nodes};
 ghost use Rattle.spec_language.specs.Limits.{behaviour_limit, event_limit};
@@ -19,8 +19,8 @@ use draft_form::layout;
 use spec_language::limits;
 
 // Whether a node is the name of none of b behaviours.
-fn is_unknown(x: u64, b: usize) -> bool
-    ensures { result ≡ is_unknown x b }
+fn is_stray(x: u64, b: usize) -> bool
+    ensures { result ≡ stray x b }
 {
     if x / layout::WORD == layout::NAME {
         return x % layout::WORD >= b as u64;
@@ -36,7 +36,7 @@ pub fn names_known(d: &[u64], n: usize, b: usize) -> bool
     let mut k = n;
     while k > 0 {
         k -= 1;
-        if is_unknown(d[k], b) {
+        if is_stray(d[k], b) {
             return false;
         }
     }

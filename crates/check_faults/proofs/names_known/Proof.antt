@@ -1,6 +1,6 @@
 -- The loop keeps: the nodes that are left decide the whole.
 use Rattle.lib_base.proofs.Prelude.{ℕ, ◌≤◌, ◌<◌, ◌-◌, suc, ◌≡◌, refl, ◌∙◌, sym, true, false, List, get_or, arith}
-use Rattle.check_faults.specs.Checks.{is_unknown, names_known}
+use Rattle.check_faults.specs.Checks.{stray, names_known}
 use Rattle.check_faults.proofs.names_known.Statement.{statement}
 use Rattle.check_faults.proofs.names_known.Tie as tie
 
@@ -8,14 +8,14 @@ record Turn (d : List ℕ) (b n k : ℕ) : Type 0 where
   whole : names_known d b k ≡ names_known d b n
   within : k ≤ n
 
-turn : {d : List ℕ} {b n k : ℕ} → Turn d b n k → 0 < k → is_unknown (get_or d (k - 1) 0) b ≡ false → Turn d b n (k - 1)
+turn : {d : List ℕ} {b n k : ℕ} → Turn d b n k → 0 < k → stray (get_or d (k - 1) 0) b ≡ false → Turn d b n (k - 1)
 unfolding names_known
 turn {d} {b} {n} {k} t h e =
     let s : k ≡ suc (k - 1) = omega arith in
     let step : names_known d b (suc (k - 1)) ≡ names_known d b (k - 1) = rw (e, names_known) in
     record { whole = sym step ∙ (rw s at t.whole); within = omega arith }
 
-stop : {d : List ℕ} {b n k : ℕ} → Turn d b n k → 0 < k → is_unknown (get_or d (k - 1) 0) b ≡ true → false ≡ names_known d b n
+stop : {d : List ℕ} {b n k : ℕ} → Turn d b n k → 0 < k → stray (get_or d (k - 1) 0) b ≡ true → false ≡ names_known d b n
 unfolding names_known
 stop {d} {b} {n} {k} t h e =
     let s : k ≡ suc (k - 1) = omega arith in
@@ -43,7 +43,7 @@ names_known_spec =
     (λ c. omega arith)
     (λ c. omega arith)
     (λ c κs. tt)
-    (λ c. stop c.before.before.before.before.loop.invariant (omega arith) (sym c.before.is-unknown.ensures ∙ c.if1.true))
+    (λ c. stop c.before.before.before.before.loop.invariant (omega arith) (sym c.before.is-stray.ensures ∙ c.if1.true))
     (λ c. omega arith)
-    (λ c. turn c.before.before.before.before.loop.invariant (omega arith) (sym c.before.is-unknown.ensures ∙ c.if1.false))
+    (λ c. turn c.before.before.before.before.loop.invariant (omega arith) (sym c.before.is-stray.ensures ∙ c.if1.false))
     (λ c. end c.before.loop.invariant (omega arith)))
