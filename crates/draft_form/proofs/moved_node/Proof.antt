@@ -10,7 +10,7 @@ unfolding moved
 moved_node_spec =
     tie.close
     (tie.spec (search rules) (search rules) (search rules) (search rules) (search rules) (search rules)
-    (λ c. omega (arith, c.shared-slice-known2.given (4352 + c.before.before.before.before.args.i)))
+    (λ c. omega (arith, c.shared_slice_known-then-m-lt-BEHAVIOURS-1.given (4352 + c.before.before.before.before.args.i)))
     (search rules) (search rules) (search rules) (search rules)
     (λ c. search code depth 12)
     (λ c. search code depth 12)
