@@ -55,7 +55,7 @@ module _ (c : tie.Else-not-table_fits) where
   entry = c.before.before.before.before
 
   table_bounds : TableBounds entry.args.table.now
-  table_bounds = c.before.table_fits.ensures.1 (not-false _ c.if-not-table_fits.false)
+  table_bounds = c.before.table_fits.ensures.1 c.if-not-table_fits.false
 
 -- and the round is long enough: what is left is told of it
 module _ (c : tie.Else-round-lt-BYTES) where
@@ -67,7 +67,7 @@ module _ (c : tie.Else-round-lt-BYTES) where
 
   inside : {x : Bool} → x ≡ round_in t l → (x ≡ ours t l) × (x ≡ true → Bounds t l)
   inside q =
-      told _ _ (opened _ _ c.before.before.table_fits.ensures.0 (not-false _ c.before.if-not-table_fits.false)
+      told _ _ (opened _ _ c.before.before.table_fits.ensures.0 c.before.if-not-table_fits.false
       c.if-round-lt-BYTES.false q)
 
 returns_4 : tie.Need-returns-then-get_word-gt-STACK
@@ -81,8 +81,8 @@ returns_5 c =
     let long = shallow.before.before.before.before.before in
     inside long (runs_badly _ _ shallow.before.before.before.before.get_word-known.ensures
     shallow.before.before.before.get_word-waiting.ensures shallow.before.before.if-waiting-gt-QUEUE.false
-    shallow.before.get_word.ensures shallow.if-get_word-gt-STACK.false c.before.running_fits_law.ensures
-    (not-true _ c.if-not-running_fits.true))
+    shallow.before.get_word.ensures shallow.if-get_word-gt-STACK.false c.before.running_fits.ensures
+    c.if-not-running_fits.true)
 
 returns_6 : tie.Need-returns
 returns_6 c =
@@ -90,16 +90,16 @@ returns_6 c =
     let long = shallow.before.before.before.before.before in
     inside long (fits _ _ shallow.before.before.before.before.get_word-known.ensures
     shallow.before.before.before.get_word-waiting.ensures shallow.before.before.if-waiting-gt-QUEUE.false
-    shallow.before.get_word.ensures shallow.if-get_word-gt-STACK.false c.before.before.running_fits_law.ensures
-    (not-false _ c.before.if-not-running_fits.false) c.slots_fit_law.ensures)
+    shallow.before.get_word.ensures shallow.if-get_word-gt-STACK.false c.before.before.running_fits.ensures
+    c.before.if-not-running_fits.false c.slots_fit.ensures)
 
 pub is_ours_spec : {M : Type 1} → statement M
 is_ours_spec =
     tie.close
     (tie.spec (search rules)
-    (λ c. told _ _ (bad_table _ _ c.before.table_fits.ensures.0 (not-true _ c.if-not-table_fits.true)))
+    (λ c. told _ _ (bad_table _ _ c.before.table_fits.ensures.0 c.if-not-table_fits.true))
     (λ c.
-    told _ _ (short _ _ c.before.before.table_fits.ensures.0 (not-false _ c.before.if-not-table_fits.false)
+    told _ _ (short _ _ c.before.before.table_fits.ensures.0 c.before.if-not-table_fits.false
     c.if-round-lt-BYTES.true))
     (λ c κs. let h = table_bounds c.before in search rules)
     (search rules)

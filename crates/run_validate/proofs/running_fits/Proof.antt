@@ -39,15 +39,15 @@ returns_3 : tie.Need-returns-then-not-hand_fits
 returns_3 c =
     let at_if1 = c.before.before.before.before in
     unknown _ _ _ _ _ at_if1.before.get_word.ensures at_if1.if-get_word-eq0.false (search rules)
-    c.before.before.get_little-swapped.ensures c.before.hand_fits_law.ensures (not-true _ c.if-not-hand_fits.true)
+    c.before.before.get_little-swapped.ensures c.before.hand_fits.ensures c.if-not-hand_fits.true
 
 returns_4 : tie.Need-returns
 returns_4 c =
     let at_little = c.before.before.before.before.before in
     runs _ _ _ _ at_little.before.before.before.get_word.ensures at_little.before.before.if-get_word-eq0.false
-    (search rules) at_little.get_little-swapped.ensures c.before.before.before.before.hand_fits_law.ensures
-    (not-false _ c.before.before.before.if-not-hand_fits.false) c.get_word-2.ensures
-    c.before.before.event_at_law.ensures c.before.event_word_law.ensures
+    (search rules) at_little.get_little-swapped.ensures c.before.before.before.before.hand_fits.ensures
+    c.before.before.before.if-not-hand_fits.false c.get_word-2.ensures
+    c.before.before.event_at-event.ensures c.before.event_word-length.ensures
 
 pub running_fits_spec : {M : Type 1} → statement M
 running_fits_spec =

@@ -51,7 +51,7 @@ slots_fit_spec =
     (λ c κs. search rules)
     (λ c. omega arith)
     (λ c. omega arith)
-    (λ c. turn c.before.before.before.loop-i.invariant (omega arith) c.before.get_little-swapped.ensures c.hand_fits_law.ensures)
+    (λ c. turn c.before.before.before.loop-i.invariant (omega arith) c.before.get_little-swapped.ensures c.hand_fits-fit.ensures)
     (λ c.
     let e : c.before.loop-i.i ≡ c.before.before.before.args.n = omega arith in
     rw e at c.before.loop-i.invariant.same))
