@@ -6,17 +6,17 @@ use Rattle.sheet_write.proofs.Laws.{enclosed}
 use Rattle.sheet_write.proofs.enclose.Statement.{statement}
 use Rattle.sheet_write.proofs.enclose.Tie as tie
 
-returns : tie.Need-returns
+returns : tie.Need-returns-then-out-end
 unfolding as_field
 returns c = search code depth 12
 
-returns_2 : tie.Need-returns-2
+returns_2 : tie.Need-returns
 returns_2 c =
     let top = c.before.before in
     let tested = top.before.before in
     let s = tested.before.before in
-    top.put-header.ensures
-    ∙ enclosed s.args.tag s.args.n s.args.end s.args.out.now s.requires.0 tested.if1.false
+    top.put_header.ensures
+    ∙ enclosed s.args.tag s.args.n s.args.end s.args.out-1.now s.requires.0 tested.if-out-end.false
 
 pub enclose_spec : {M : Type 1} → statement M
 enclose_spec =

@@ -4,16 +4,16 @@ use Rattle.sheet_write.proofs.Laws.{fits, left_out, handler_written}
 use Rattle.sheet_write.proofs.put_handler.Statement.{statement}
 use Rattle.sheet_write.proofs.put_handler.Tie as tie
 
-returns : tie.Need-returns
+returns : tie.Need-returns-then-out-n
 returns c =
     let a = c.before.args in
-    sym (left_out a.out.now (a.n + 3) (a.event ∷ a.phase ∷ []) (omega (arith, c.if1.true)))
+    sym (left_out a.out.now (a.n + 3) (a.event ∷ a.phase ∷ []) (omega (arith, c.if-out-n.true)))
 
-returns_2 : tie.Need-returns-2
+returns_2 : tie.Need-returns
 returns_2 c =
     let a = c.before.args in
     handler_written a.out.now a.n a.event a.phase
-    ∙ sym (fits a.out.now (a.n + 3) (a.event ∷ a.phase ∷ []) (omega (arith, c.if1.false)))
+    ∙ sym (fits a.out.now (a.n + 3) (a.event ∷ a.phase ∷ []) (omega (arith, c.if-out-n.false)))
 
 pub put_handler_spec : {M : Type 1} → statement M
 put_handler_spec =

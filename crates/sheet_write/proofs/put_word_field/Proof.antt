@@ -5,21 +5,21 @@ use Rattle.sheet_write.proofs.Laws.{fits, left_out, field_written}
 use Rattle.sheet_write.proofs.put_word_field.Statement.{statement}
 use Rattle.sheet_write.proofs.put_word_field.Tie as tie
 
-returns : tie.Need-returns
+returns : tie.Need-returns-then-out-n
 returns c =
     let a = c.before.before.args in
-    sym (left_out a.out.now a.n (field a.tag (word a.w)) (omega (arith, c.if1.true)))
+    sym (left_out a.out-1.now a.n (field a.tag (word a.w)) (omega (arith, c.if-out-n.true)))
 
-returns_2 : tie.Need-returns-2
+returns_2 : tie.Need-returns
 returns_2 c =
     let value = c.before.before in
     let top = value.before.before.before.before in
     let tested = top.before.before in
     let a = tested.before.before.args in
-    value.put-high-first.ensures
-    ∙ ap (λ l. sets l (a.n + 3) (word a.w)) top.put-header.ensures
-    ∙ field_written a.out.now a.n a.tag (word a.w)
-    ∙ sym (fits a.out.now a.n (field a.tag (word a.w)) (omega (arith, tested.if1.false)))
+    value.put_high_first.ensures
+    ∙ ap (λ l. sets l (a.n + 3) (word a.w)) top.put_header.ensures
+    ∙ field_written a.out-1.now a.n a.tag (word a.w)
+    ∙ sym (fits a.out-1.now a.n (field a.tag (word a.w)) (omega (arith, tested.if-out-n.false)))
 
 pub put_word_field_spec : {M : Type 1} → statement M
 put_word_field_spec =

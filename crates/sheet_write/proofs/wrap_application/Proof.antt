@@ -6,23 +6,23 @@ use Rattle.sheet_write.proofs.Laws.{head_written}
 use Rattle.sheet_write.proofs.wrap_application.Statement.{statement}
 use Rattle.sheet_write.proofs.wrap_application.Tie as tie
 
-returns : tie.Need-returns
+returns : tie.Need-returns-then-out-end
 unfolding as_application
 returns c = search code depth 12
 
-same_length : tie.Need-same-length
+same_length : tie.Need-shape_of-out
 same_length c =
     let top = c.before.before in
-    simp length-set (top.put-header.auto.0 ∙ top.before.before.before.before.shift.auto.0)
+    simp length-set (top.put_header.auto.0 ∙ top.before.before.before.before.shift.auto.0)
 
-returns_2 : tie.Need-returns-2
+returns_2 : tie.Need-returns
 returns_2 c =
     let top = c.before.before in
     let moved = top.before.before.before.before in
     let tested = moved.before.before in
     let s = tested.before.before in
-    rw (top.put-header.ensures, moved.shift.ensures)
-    (head_written s.args.start s.args.end s.args.f s.args.out.now s.requires.0 (omega (arith, tested.if1.false)))
+    rw (top.put_header.ensures, moved.shift.ensures)
+    (head_written s.args.start s.args.end s.args.f s.args.out-1.now s.requires.0 (omega (arith, tested.if-out-end.false)))
 
 pub wrap_application_spec : {M : Type 1} → statement M
 wrap_application_spec =
