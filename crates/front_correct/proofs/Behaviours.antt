@@ -3,7 +3,7 @@
 use Rattle.lib_base.proofs.Prelude.{ℕ, ◌≤◌, ◌<◌, ◌+◌, ◌-◌, suc, ◌*◌, ◌≡◌, refl, ◌∙◌, sym, ap, true, ◌||◌, ◌≢◌, Option}
 use Rattle.lib_base.proofs.Prelude.{List, [], ◌∷◌, ◌++◌, append-nil, length, get_or, take, drop, length-set, set}
 use Rattle.lib_base.proofs.Prelude.{length-drop, get_or-set_other, get_or-set_same, get_or-drop, sets, get_or-take, take-set-le}
-use Rattle.lib_base.proofs.Prelude.{eqb, ltb, leb, eqb·suc-zero, ne_eqb, eqb-true, eq-eqb, ltb-false, eqb-false}
+use Rattle.lib_base.proofs.Prelude.{eqb, ltb, leb, eqb·suc-zero, ne_eqb, eqb-true, le-ltb, eq-eqb, ltb-false, eqb-false}
 use Rattle.lib_base.proofs.Prelude.{ltb-true, lt-leb, leb-false, arith}
 use native.Mathlib.Nat.{add-sub_cancel_left}
 use Rattle.lib_base.specs.Basics.{pick}
@@ -22,8 +22,7 @@ use Rattle.front_field.specs.Expression.{Out, out, rest_from, go_on_after, expr_
 use Rattle.front_field.specs.declared.Read.TheVariants.{Done, Fault}
 use Rattle.draft_form.specs.Draft as draft
 use Rattle.draft_form.specs.Draft.{draft_length, nodes, handler_nodes, behaviour_nodes, unfilled}
-use Rattle.front_rows.specs.Cells.{least_of, most_of, row_copied}
-use Rattle.sheet_walk.specs.Fields.{cells_in_front}
+use Rattle.front_rows.specs.Cells.{least_of, most_of, cells_at, row_copied}
 use Rattle.front_viewers.specs.Ending.{viewer, ending_of}
 use Rattle.front_behaviours.specs.Handler.{slot, handlers_of}
 use Rattle.front_behaviours.specs.Behaviour.{passive_of, active_body, active_from, active_of, cells_of, row_of, value_at, behaviour_from, behaviour_of}
@@ -274,14 +273,17 @@ tags_due (t ∷ s) =
     (λ a. split (ltb 3 t) (λ b. rw (a, b, ne_eqb t 2 (omega (arith, ltb-true 3 t b)), ne_eqb t 3 (omega (arith, ltb-true 3 t b))))
     (λ b. split (eqb t 2) (λ c. rw (a, b, c)) (λ c. rw (a, b, c, eq-eqb t 3 (omega (arith, ltb-false t 2 a, ltb-false 3 t b, eqb-false t 2 c)))))))))
 
-cells_one : (s : List ℕ) → get_or s 0 0 ≢ 6 → cells_in_front s ≡ 1
-cells_one s h = rw (ne_eqb (get_or s 0 0) 6 h)
+cells_one : (s : List ℕ) → get_or s 0 0 ≢ 6 → cells_at s ≡ 1
+unfolding cells_at
+cells_one s h = rw (ne_eqb (get_or s 0 0) 6 h) (by_test (λ (z : ℕ). z ≡ 1) (ltb (length s) 4) (λ e. refl) (λ e. refl))
 
-cells_many : (s : List ℕ) → span s ≤ length s → get_or s 0 0 ≡ 6 → (c : ℕ) (u : List ℕ) → value_in s ≡ c ∷ u → cells_in_front s ≡ c
+cells_many : (s : List ℕ) → span s ≤ length s → get_or s 0 0 ≡ 6 → (c : ℕ) (u : List ℕ) → value_in s ≡ c ∷ u → cells_at s ≡ c
+unfolding cells_at
 cells_many s fits h c u e =
     let l : length (value_in s) ≡ length (c ∷ u) = ap (λ (v : List ℕ). length v) e in
+    let big : 4 ≤ length s = omega (arith, value_length s fits) in
     let k : c ≡ get_or s 3 0 = sym (ap (λ (v : List ℕ). get_or v 0 0) e) ∙ get_or-take (stated s) (drop 3 s) 0 0 (omega (arith, value_length s fits)) ∙ get_or-drop 3 s 0 0 in
-    rw (eq-eqb (get_or s 0 0) 6 h) (sym k)
+    rw (le-ltb (length s) 4 big, eq-eqb (get_or s 0 0) 6 h) (sym k)
 
 module _ (rs : List Signal) (i : ℕ) (d : List ℕ) (n : ℕ) (few : length rs ≤ 32) (long : length d ≡ draft_length) (blank : i < 64 → Blank d i)
     (s : List ℕ) (small : n * 4 + length s ≤ 8192) where
@@ -290,13 +292,13 @@ module _ (rs : List Signal) (i : ℕ) (d : List ℕ) (n : ℕ) (few : length rs 
   no_room t v e = rw e refl
 
   abbrev SameHere : Got Entry → Out → Type 0
-  SameHere = SameBehaviour i (cells_in_front s) s (span s) d n
+  SameHere = SameBehaviour i (cells_at s) s (span s) d n
 
   -- a field with tag t, whatever tags were due
   tagged : (t : ℕ) (r : List ℕ) → i < 64 → r ≡ drop (span s) s → span s ≤ length s → t ≡ get_or s 0 0
       → SameHere (filling (behaviour_in (length rs) i t (value_in s)) r) (value_at t (value_in s) (length rs) i d n)
   tagged t r low after fits q =
-      value_same (length rs) i d n few low long (blank low) s (span s) (omega arith) r after fits (cells_in_front s) t (value_in s) (value_length s fits)
+      value_same (length rs) i d n few low long (blank low) s (span s) (omega arith) r after fits (cells_at s) t (value_in s) (value_length s fits)
       (λ z. cells_one s (λ y. z (q ∙ y))) (λ z. cells_many s fits (sym q ∙ z))
 
   pub same_behaviour : (bs : List Entry) → cell_count bs ≡ i → SameHere (due_at (length rs) bs s) (behaviour_of s (length rs) i d n)

@@ -17,8 +17,7 @@ use Rattle.sheet_field.specs.Field.{stated, field_of}
 use Rattle.front_field.specs.Expression.{Out}
 use Rattle.sheet_field.specs.declared.Field.TheVariants.{Value, Refused}
 use Rattle.draft_form.specs.Draft.{draft_length}
-use Rattle.front_rows.specs.Cells.{least_of, most_of}
-use Rattle.sheet_walk.specs.Fields.{cells_in_front}
+use Rattle.front_rows.specs.Cells.{least_of, most_of, cells_at}
 use Rattle.front_sheet.specs.declared.Draft.TheVariants.{Ready, Broken}
 use Rattle.front_behaviours.specs.Behaviour.{behaviour_of}
 use Rattle.front_sheet.specs.Whole.{EventRead, sender, signal_at, priority_at, event_from, read_event, event_next, read_events, Finish, finished, proceed, behaviours_of, read_on}
@@ -56,8 +55,8 @@ module _ (s : List ℕ) (rs : List Signal) where
   next : (l at : ℕ) (bs : List Entry) (d : List ℕ) (n : ℕ) (F : Entry → List ℕ → Got (List Entry)) → Due at bs d n
       → ((at' : ℕ) (b : Entry) (d' : List ℕ) (n' : ℕ) → at < at' → Due at' (bs ++ (b ∷ [])) d' n'
       → SameProgram (made (F b (drop at' s))) (behaviours_of l s at' (length rs) (cell_count bs + cells b.item) d' n'))
-      → (g : Got Entry) (o : Out) → SameBehaviour (cell_count bs) (cells_in_front (drop at s)) (drop at s) (span (drop at s)) d n g o
-      → SameProgram (made (then g F)) (proceed o.0 o.1 (λ size m. behaviours_of l s (at + size) (length rs) (cell_count bs + cells_in_front (drop at s)) o.1 m))
+      → (g : Got Entry) (o : Out) → SameBehaviour (cell_count bs) (cells_at (drop at s)) (drop at s) (span (drop at s)) d n g o
+      → SameProgram (made (then g F)) (proceed o.0 o.1 (λ size m. behaviours_of l s (at + size) (length rs) (cell_count bs + cells_at (drop at s)) o.1 m))
   next l at bs d n F t ih (bad k) o e = rw e refl
   next l at bs d n F t ih (got b r) o h =
       let q : length (drop at s) ≡ length s - at = length-drop at s in

@@ -1,7 +1,8 @@
 -- Rows as the reader reads them. 02, M-110: "A new field 06 in place of 03 begins with a one-byte cell count": which
--- tags are due where a behaviour may stand, and the draft (crate draft_form) with the cells of a row after the first:
--- each has the entries, the start and the right to see of the first, and a place of its own.
-use Rattle.std.specs.Prelude.{ℕ, zero, suc, ◌+◌, ◌*◌, ◌-◌, List, length, get_or, set, eqb}
+-- tags are due where a behaviour may stand, how many behaviours the field there makes, and the draft (crate
+-- draft_form) with the cells of a row after the first: each has the entries, the start and the right to see of the
+-- first, and a place of its own.
+use Rattle.std.specs.Prelude.{ℕ, zero, suc, ◌+◌, ◌*◌, ◌-◌, List, length, get_or, set, eqb, ltb}
 use Rattle.lib_base.specs.Basics.{pick}
 
 -- ---- the field at the front of s
@@ -12,6 +13,10 @@ least_of s lo = pick (eqb (length s) 0) lo (pick (eqb (get_or s 0 0) 6) 6 lo)
 
 unfoldable pub most_of : List ℕ → ℕ
 most_of s = pick (eqb (length s) 0) 3 (pick (eqb (get_or s 0 0) 6) 6 3)
+
+-- how many behaviours it makes
+unfoldable pub cells_at : List ℕ → ℕ
+cells_at s = pick (ltb (length s) 4) 1 (pick (eqb (get_or s 0 0) 6) (get_or s 3 0) 1)
 
 -- ---- copies
 

@@ -1,16 +1,18 @@
-// Rows in the reader (02, M-110): which tags are due where a behaviour may stand, and the cells of a row after the
-// first, which the draft (layout: draft_form, specs/Draft.antt) has as copies of the first.
+// Rows in the reader (02, M-110): which tags are due where a behaviour may stand, how many behaviours the field there
+// makes, and the cells of a row after the first, which the draft (layout: draft_form, specs/Draft.antt) has as copies
+// of the first.
 // Time: 36 words for each cell.
 
 #![tactic(auto)]
 
 ghost use Rattle.std.specs.Prelude.{◌≡◌, ◌+◌, ◌<◌, ◌≤◌, length};
 ghost use Rattle.draft_form.specs.Draft.{draft_length};
-ghost use Rattle.front_rows.specs.Cells.{least_of, most_of, entries_copied, start_copied, viewer_copied, cell_copied, row_copied};
+ghost use Rattle.front_rows.specs.Cells.{least_of, most_of, cells_at, entries_copied, start_copied, viewer_copied, cell_copied, row_copied};
+ghost use Rattle.lib_base.specs.Words.{byte_values};
 ghost use Rattle.spec_language.specs.Limits.{behaviour_limit, event_limit};
 
 use draft_form::layout;
-use sheet_field::tags;
+use sheet_field::{sizes, tags};
 use spec_language::limits;
 
 const CELLS: usize = layout::CELLS as usize;
@@ -39,6 +41,20 @@ pub fn most_tag(s: &[u8]) -> u8
         return tags::ROW;
     }
     tags::ACTIVE
+}
+
+// How many behaviours the field at the front of s makes.
+pub fn cells_at(s: &[u8]) -> usize
+    ensures value { result ≡ cells_at s.now }
+    ensures upper_bound { result < byte_values }
+{
+    if s.len() < sizes::BYTE_HEAD {
+        return 1;
+    }
+    if s[0] == tags::ROW {
+        return s[sizes::HEADER] as usize;
+    }
+    1
 }
 
 // The entries of behaviour i go to behaviour k too.

@@ -10,8 +10,7 @@ use Rattle.sheet_field.specs.declared.Field.{Field}
 use Rattle.sheet_field.specs.declared.Field.TheVariants.{Value, Refused}
 use Rattle.front_field.specs.declared.Read.{Read}
 use Rattle.front_field.specs.declared.Read.TheVariants.{Done, Fault}
-use Rattle.front_rows.specs.Cells.{least_of, most_of}
-use Rattle.sheet_walk.specs.Fields.{cells_in_front}
+use Rattle.front_rows.specs.Cells.{least_of, most_of, cells_at}
 use Rattle.front_behaviours.specs.Handler.{fault_of}
 use Rattle.front_behaviours.specs.Behaviour.{behaviour_of, Counted}
 use Rattle.draft_form.specs.Draft.{draft_length}
@@ -117,7 +116,7 @@ pub record BehaviourTurn (s : List ℕ) (from events : ℕ) (d₀ d : List ℕ) 
 
 module _ (s : List ℕ) (at events i : ℕ) (d : List ℕ) (n : ℕ) {r : Read} {p : List ℕ} (h : at ≡ length s → ⊥) (g : at ≤ length s)
     (w : out r p ≡ behaviour_of (rest_from at s) events i d n) where
-  behaviours_more : (k : ℕ) {size next : ℕ} → length s ≤ at + k → r ≡ Done size next → behaviours_of k s at events i d n ≡ behaviours_of (k - 1) s (at + size) events (i + cells_in_front (rest_from at s)) p next
+  behaviours_more : (k : ℕ) {size next : ℕ} → length s ≤ at + k → r ≡ Done size next → behaviours_of k s at events i d n ≡ behaviours_of (k - 1) s (at + size) events (i + cells_at (rest_from at s)) p next
   unfolding behaviours_of
   behaviours_more zero b t = absurd (h (omega arith))
   behaviours_more (suc k) b t = rw (ne_eqb at (length s) h, sub-one, ← w, t)
@@ -138,7 +137,7 @@ module _ {s : List ℕ} {from events : ℕ} {d₀ d : List ℕ} {at i n : ℕ} (
   behaviour_stops h w f z = rw (z, f) (rw (behaviours_fault s at events i d n h t.reached w t.fuel t.enough f) at t.whole)
 
   pub behaviour_turns : {r : Read} {p : List ℕ} {size next : ℕ} → (at ≡ length s → ⊥) → out r p ≡ behaviour_of (rest_from at s) events i d n → r ≡ Done size next
-      → ReadIn (length (rest_from at s)) n r → Counted i r → length p ≡ length d → {z : ℕ} → z ≡ cells_in_front (rest_from at s) → z ≤ 255 → BehaviourTurn s from events d₀ p (at + size) (i + z) next
+      → ReadIn (length (rest_from at s)) n r → Counted i r → length p ≡ length d → {z : ℕ} → z ≡ cells_at (rest_from at s) → z < 256 → BehaviourTurn s from events d₀ p (at + size) (i + z) next
   behaviour_turns {size} {next} h w f b c l y x =
       let b' : ReadIn (length (rest_from at s)) n (Done size next) = rw f at b in
       let c' : Counted i (Done size next) = rw f at c in

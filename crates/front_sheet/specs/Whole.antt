@@ -10,8 +10,7 @@ use Rattle.sheet_field.specs.declared.Field.{Field}
 use Rattle.sheet_field.specs.declared.Field.TheVariants.{Value, Refused}
 use Rattle.front_field.specs.declared.Read.{Read}
 use Rattle.front_field.specs.declared.Read.TheVariants.{Done, Fault}
-use Rattle.front_rows.specs.Cells.{least_of, most_of}
-use Rattle.sheet_walk.specs.Fields.{cells_in_front}
+use Rattle.front_rows.specs.Cells.{least_of, most_of, cells_at}
 use Rattle.front_behaviours.specs.Behaviour.{behaviour_of}
 use Rattle.front_sheet.specs.declared.Event.{Event}
 use Rattle.front_sheet.specs.declared.Event.TheVariants.{Declared, Ended, NoEvent}
@@ -91,7 +90,7 @@ behaviours_of zero s at events i d n = pick (eqb at (length s)) (finished (Ready
 behaviours_of (suc k) s at events i d n =
     pick (eqb at (length s)) (finished (Ready events i n) d)
     (let o : Out = behaviour_of (rest_from at s) events i d n in
-    proceed o.0 o.1 (λ size m. behaviours_of k s (at + size) events (i + cells_in_front (rest_from at s)) o.1 m))
+    proceed o.0 o.1 (λ size m. behaviours_of k s (at + size) events (i + cells_at (rest_from at s)) o.1 m))
 
 -- the program in s, from the draft d
 unfoldable pub read_on : List ℕ → List ℕ → Finish

@@ -129,7 +129,7 @@ fn read_behaviours(s: &[u8], from: usize, events: usize, draft: &mut [u64]) -> D
         let Read::Done(size, next) = r else {
             return Draft::Broken(front_behaviours::fault(r));
         };
-        i = i + sheet_walk::cells_at(&s[at..], 0);
+        i = i + front_rows::cells_at(&s[at..]);
         at = at + size;
         n = next;
     }
