@@ -16,9 +16,12 @@ first_cells = 65
 abbrev pub handled_length : ℕ
 handled_length = 33
 
--- the largest number after a `-`
+-- the largest number after a `-`; larger ones are all told from it by one more
 abbrev pub largest_negated : ℕ
 largest_negated = 2147483648
+
+abbrev pub past_negated : ℕ
+past_negated = 2147483649
 
 -- the last number of a fault
 abbrev pub last_fault : ℕ
