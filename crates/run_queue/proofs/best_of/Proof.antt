@@ -68,9 +68,9 @@ again c =
     let f = slot.before.priority_at-priority.ensures in
     let g = slot.get_word-number.ensures in
     ⊎_elim
-    (λ w. rw (w.1, w.2, w.3) (taken u (omega arith) (omega arith) f g c.before.is_ahead.ensures w.0.taken))
-    (λ w. rw (w.1, w.2, w.3) (left u (omega arith) (omega arith) f g c.before.is_ahead.ensures w.0.left))
-    c.if-is_ahead.branch
+    (λ w. rw (w.best-is, w.best_priority-is, w.best_number-is) (taken u (omega arith) (omega arith) f g c.before.is_ahead.ensures w.if-is_ahead.true))
+    (λ w. rw (w.best-is, w.best_priority-is, w.best_number-is) (left u (omega arith) (omega arith) f g c.before.is_ahead.ensures w.if-is_ahead.false))
+    c.if-is_ahead.branch-raw
 
 pub best_of_spec : {M : Type 1} → statement M
 best_of_spec =

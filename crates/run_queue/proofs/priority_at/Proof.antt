@@ -13,8 +13,8 @@ pub priority_at_spec : {M : Type 1} → statement M
 priority_at_spec =
     tie.close
     (tie.spec (search rules) (search rules) (search rules) (search rules)
-    (λ c. omega (arith, c.event_at_law.ensures, c.before.before.before.requires.3))
-    (λ c. omega (arith, c.event_at_law.ensures, c.before.before.before.requires.3))
-    (λ c. omega (arith, c.event_at_law.ensures, c.before.before.before.requires.3))
-    (λ c κs. omega (arith, c.event_at_law.ensures, c.before.before.before.requires.0, c.before.before.before.requires.3))
-    (λ c. of_record _ c.before.before.before.before.requires.3 c.before.event_at_law.ensures c.get_word.ensures))
+    (λ c. omega (arith, c.event_at-event.ensures, c.before.before.before.requires.3))
+    (λ c. omega (arith, c.event_at-event.ensures, c.before.before.before.requires.3))
+    (λ c. omega (arith, c.event_at-event.ensures, c.before.before.before.requires.3))
+    (λ c κs. omega (arith, c.event_at-event.ensures, c.before.before.before.requires.0, c.before.before.before.requires.3))
+    (λ c. of_record _ c.before.before.before.before.requires.3 c.before.event_at-event.ensures c.get_word.ensures))
