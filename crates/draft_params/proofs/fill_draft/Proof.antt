@@ -14,10 +14,10 @@ turn : {ps d₀ d : List ℕ} {n k x : ℕ} → Turn ps d₀ d n k → k < n →
 unfolding fill_to
 turn {ps} {d₀} {d} {n} {k} {x} t h e = record { same = rw (add-one k, ← t.same, ← e); within = omega arith; long = length-set d k x ∙ t.long }
 
-abbrev invariant-loop : tie.invariant-loop
+abbrev invariant-loop : tie.invariant-loop-k
 invariant-loop d₀ nodes params k₀ d k = Turn params d₀ d nodes k
 
-abbrev decreases-loop : tie.decreases-loop
+abbrev decreases-loop : tie.decreases-loop-k
 decreases-loop d₀ nodes params k₀ d k = nodes - k
 
 pub fill_draft_spec : {M : Type 1} → statement M
@@ -35,6 +35,6 @@ fill_draft_spec =
     (λ c. omega arith)
     (λ c. omega arith)
     (λ c. omega arith)
-    (λ c. turn c.before.before.before.loop.invariant (omega arith) c.fill-node.ensures)
-    (λ c. c.before.loop.invariant.long)
-    (λ c. let e : c.before.loop.k ≡ c.before.before.before.before.args.nodes = omega arith in rw e at c.before.loop.invariant.same))
+    (λ c. turn c.before.before.before.loop-k.invariant (omega arith) c.fill_node.ensures)
+    (λ c. c.before.loop-k.invariant.long)
+    (λ c. let e : c.before.loop-k.k ≡ c.before.before.before.before.args.nodes = omega arith in rw e at c.before.loop-k.invariant.same))

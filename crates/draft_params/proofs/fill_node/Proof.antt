@@ -12,5 +12,5 @@ fill_node_spec =
     (tie.spec
     (λ c κs. search rules)
     (λ c. search rules)
-    (λ c. rw (← c.parameter-value.ensures.0) (search code depth 12))
+    (λ c. rw (← c.parameter_value.ensures.0) (search code depth 12))
     (λ c. search code depth 12))

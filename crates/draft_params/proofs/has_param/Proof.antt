@@ -28,10 +28,10 @@ end : {d : List ℕ} {n k : ℕ} → Turn d n k → k ≤ 0 → false ≡ any_pa
 unfolding any_param
 end {k} t h = let s : k ≡ 0 = omega arith in rw s at t.whole
 
-abbrev invariant-loop : tie.invariant-loop
+abbrev invariant-loop : tie.invariant-loop-k
 invariant-loop d n k₀ k = Turn d n k
 
-abbrev decreases-loop : tie.decreases-loop
+abbrev decreases-loop : tie.decreases-loop-k
 decreases-loop d n k₀ k = k
 
 pub has_param_spec : {M : Type 1} → statement M
@@ -44,7 +44,7 @@ has_param_spec =
     (λ c. omega arith)
     (λ c. omega arith)
     (λ c. omega arith)
-    (λ c. stop c.before.before.before.loop.invariant (omega arith) (eq-eqb _ 19 c.if1.true))
+    (λ c. stop c.before.before.before.loop-k.invariant (omega arith) (eq-eqb _ 19 c.if-draft-k-eq-PARAMETER.true))
     (λ c. omega arith)
-    (λ c. turn c.before.before.before.loop.invariant (omega arith) (ne_eqb _ 19 c.if1.false))
-    (λ c. end c.before.loop.invariant (omega arith)))
+    (λ c. turn c.before.before.before.loop-k.invariant (omega arith) (ne_eqb _ 19 c.if-draft-k-eq-PARAMETER.false))
+    (λ c. end c.before.loop-k.invariant (omega arith)))

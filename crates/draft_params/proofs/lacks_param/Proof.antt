@@ -7,4 +7,4 @@ use Rattle.draft_params.proofs.lacks_param.Tie as tie
 
 pub lacks_param_spec : {M : Type 1} → statement M
 unfolding lacks_param
-lacks_param_spec = tie.close (tie.spec (λ c κs. search rules) (λ c. rw (← c.has-param.ensures) (search code depth 12)) (λ c. search code depth 12))
+lacks_param_spec = tie.close (tie.spec (λ c κs. search rules) (λ c. rw (← c.has_param.ensures) (search code depth 12)) (λ c. search code depth 12))

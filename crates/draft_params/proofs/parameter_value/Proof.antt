@@ -13,4 +13,4 @@ parameter_value_spec =
     (λ c. (search code depth 12, omega arith))
     (λ c κs. search rules)
     (λ c. search rules)
-    (λ c. (rw (← c.get-word.ensures) (search code depth 12), omega arith)))
+    (λ c. (rw (← c.get_word.ensures) (search code depth 12), omega arith)))
