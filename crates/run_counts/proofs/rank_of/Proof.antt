@@ -1,5 +1,5 @@
 -- Each return is one branch of the definition; the words are read from a table that is long enough.
-use Rattle.lib_base.proofs.Prelude.{not-true, not-false, rules}
+use Rattle.lib_base.proofs.Prelude.{rules}
 use Rattle.lib_base.proofs.Pick.{code}
 use Rattle.run_counts.specs.Counts.{event_rank_on}
 use Rattle.run_counts.proofs.rank_of.Statement.{statement}
@@ -11,10 +11,10 @@ rank_of_spec =
     tie.close
     (tie.spec
     (λ c κs. search rules)
-    (λ c. rw (← c.before.table_fits.ensures.0, not-true c.before.table_fits.result c.if-not-table_fits.true))
-    (λ c κs. let h = (c.before.table_fits.ensures.1 (not-false _ c.if-not-table_fits.false)).long in search rules)
-    (λ c. rw (← c.before.before.before.table_fits.ensures.0, not-false c.before.before.before.table_fits.result c.before.before.if-not-table_fits.false, ← c.before.get_word.ensures) (search code depth 12))
-    (λ c κs. let h = (c.before.before.before.table_fits.ensures.1 (not-false _ c.before.before.if-not-table_fits.false)).long in search rules)
+    (λ c. rw (← c.table_fits.ensures.0, c.if-not-table_fits.true))
+    (λ c κs. let h = (c.table_fits.ensures.1 c.if-not-table_fits.false).long in search rules)
+    (λ c. rw (← c.table_fits.ensures.0, c.if-not-table_fits.false, ← c.get_word.ensures) (search code depth 12))
+    (λ c κs. let h = (c.table_fits.ensures.1 c.if-not-table_fits.false).long in search rules)
     (λ c. search rules)
     (λ c. search rules)
-    (λ c. rw (← c.before.before.before.before.table_fits.ensures.0, not-false c.before.before.before.before.table_fits.result c.before.before.before.if-not-table_fits.false, ← c.before.before.get_word.ensures, ← c.event_word_law.ensures) (search code depth 12)))
+    (λ c. rw (← c.table_fits.ensures.0, c.if-not-table_fits.false, ← c.get_word.ensures, ← c.event_word.ensures) (search code depth 12)))
