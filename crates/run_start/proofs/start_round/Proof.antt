@@ -1,8 +1,8 @@
 -- `start_round` is `start_on`: each branch follows the definition's test; the round written is the fresh one of the
 -- table's values.
-use Rattle.lib_base.proofs.Prelude.{◌∙◌, ap, not-true, not-false, rules}
+use Rattle.lib_base.proofs.Prelude.{◌∙◌, ap, rules}
 use Rattle.lib_base.proofs.Pick.{code}
-use Rattle.format_layout.specs.declared.round-1.Round.{Round}
+use Rattle.format_layout.specs.declared.round.Round.{Round}
 use Rattle.format_layout.specs.Fresh.{fresh_of}
 use Rattle.run_start.specs.Start.{image, fresh_bytes, start_on}
 use Rattle.run_start.proofs.start_round.Statement.{statement}
@@ -13,8 +13,7 @@ unfolding start_on fresh_bytes
 returns_2 c =
     rw (
       ← c.before.before.table_fits.ensures.0,
-      not-false c.before.before.table_fits.result
-          c.before.if-not-table_fits.false,
+      c.before.if-not-table_fits.false,
     ) (search code depth 12)
 
 returns_3 : tie.Need-returns
@@ -24,10 +23,10 @@ returns_3 c =
     let fits = values.before.before.before in
     let made = c.before.before.before.before.fresh.ensures ∙ ap fresh_of values.first_values.ensures in
     let written = c.before.before.write_round.ensures
-    ∙ ap (λ (r : Round). image r fits.before.before.before.args.round-1.now) made in
+    ∙ ap (λ (r : Round). image r fits.before.before.before.args.round.now) made in
     rw (
       ← fits.table_fits.ensures.0,
-      not-false fits.table_fits.result values.before.before.if-not-table_fits.false,
+      values.before.before.if-not-table_fits.false,
       written,
     ) (search code depth 12)
 
@@ -36,7 +35,7 @@ unfolding start_on fresh_bytes
 start_round_spec =
     tie.close
     (tie.spec (search rules)
-    (λ c. rw (← c.before.table_fits.ensures.0, not-true c.before.table_fits.result c.if-not-table_fits.true))
+    (λ c. rw (← c.before.table_fits.ensures.0, c.if-not-table_fits.true))
     returns_2
-    (λ c κs. (c.before.before.table_fits.ensures.1 (not-false _ c.before.if-not-table_fits.false)).long)
+    (λ c κs. (c.before.before.table_fits.ensures.1 c.before.if-not-table_fits.false).long)
     (search rules) (search rules) (search rules) returns_3)
