@@ -15,27 +15,17 @@ after_field_spec =
     (λ c κs. search rules)
     (search rules)
     (search rules)
-    (λ c.
-    let answered = c.before.before in
-    let known = answered.before.before in
-    let entry = known.before in (
-      after_refused entry.args.s.now entry.args.at entry.requires
-          (omega (arith, known.shared_slice_known-1.given entry.args.at)) answered.field_answer-a.ensures.0 c.in_default.field-0.1,
+    (λ c. (
+      after_refused c.args.s.now c.args.at c.requires
+          (omega (arith, c.shared_slice_known-1.given c.args.at)) c.field_answer-a.ensures.0 c.in_default.is,
       omega arith,
     ))
     (λ c.
-    let answered = c.before.before.before in
-    let entry = answered.before.before.before in
-    omega (arith, value_fits entry.args.s.now entry.args.at entry.requires answered.field_answer-a.ensures.1 c.before.in-Value.n.1))
+    omega (arith, value_fits c.args.s.now c.args.at c.requires c.field_answer-a.ensures.1 c.in-Value.is))
     (λ c.
-    let answered = c.before.before.before in
-    let entry = answered.before.before.before in
-    omega (arith, value_fits entry.args.s.now entry.args.at entry.requires answered.field_answer-a.ensures.1 c.before.in-Value.n.1))
-    (λ c.
-    let answered = c.before.before.before in
-    let known = answered.before.before in
-    let entry = known.before in (
-      after_value entry.args.s.now entry.args.at entry.requires
-          (omega (arith, known.shared_slice_known-1.given entry.args.at)) answered.field_answer-a.ensures.0 c.before.in-Value.n.1,
-      value_fits entry.args.s.now entry.args.at entry.requires answered.field_answer-a.ensures.1 c.before.in-Value.n.1,
+    omega (arith, value_fits c.args.s.now c.args.at c.requires c.field_answer-a.ensures.1 c.in-Value.is))
+    (λ c. (
+      after_value c.args.s.now c.args.at c.requires
+          (omega (arith, c.shared_slice_known-1.given c.args.at)) c.field_answer-a.ensures.0 c.in-Value.is,
+      value_fits c.args.s.now c.args.at c.requires c.field_answer-a.ensures.1 c.in-Value.is,
     )))

@@ -22,5 +22,5 @@ past_fields_spec =
     (λ c κs. c.before.before.before.loop-left.invariant.inside)
     (λ c. omega arith)
     (λ c. omega arith)
-    (λ c. passing_on c.before.before.before.before.loop-left.invariant c.before.before.before.loop-left-test.true c.before.before.byte_from.ensures c.before.if-byte_from-tag.false c.after_field_law.ensures.0 c.after_field_law.ensures.1)
+    (λ c. passing_on c.before.before.before.before.loop-left.invariant c.before.before.before.loop-left-test.true c.before.before.byte_from.ensures c.before.if-byte_from-tag.false c.after_field-at.ensures.0 c.after_field-at.ensures.1)
     (λ c. (passing_ends c.before.loop-left.invariant c.loop-left-test.false, c.before.loop-left.invariant.inside)))
