@@ -22,8 +22,8 @@ use Rattle.source_coding.specs.Places.{meaning_in}
 use Rattle.source_coding.specs.Sizes.{text_size}
 use Rattle.source_coding.proofs.Lengths.{sheet_takes}
 use Rattle.source_names.specs.Known.{meaning_by}
-use Rattle.source_index.specs.Index.{MeaningsPut, ShortPut, AllFound}
-use Rattle.source_index.proofs.Laws.{meanings_kept, known_sorted, known_plain}
+use Rattle.source_index.specs.Index.{MeaningsPut, AllFound}
+use Rattle.source_index.proofs.Laws.{known_sorted, known_plain}
 use Rattle.source_behaviours.specs.Whole.{NamesUsable, LookupUsable, TextRead}
 use Rattle.source_behaviours.specs.declared.Reading.TheVariants.{Read, Fault}
 use Rattle.source_hint.specs.Hint.{HintUsable, HintRight}
@@ -100,7 +100,7 @@ zeros_mean (suc n) = (omega arith, zeros_mean n)
 part_long : (n : ℕ) (l : List ℕ) → n ≤ length l → length (take (n - 0) l) ≡ n
 part_long n l h = let z : n - 0 ≡ n = omega arith in rw z (length-take-le n l h)
 
-pub part_few : (n : ℕ) (l : List ℕ) → n ≤ 72 → length l ≡ 72 → length (take (n - 0) l) ≤ 147
+pub part_few : (n : ℕ) (l : List ℕ) → n ≤ 72 → length l ≡ 72 → length (take (n - 0) l) ≤ 72
 part_few n l h e = omega (arith, part_long n l (omega arith))
 
 alike : {find other : List ℕ → NameMeaning} → ((s : List ℕ) → find s ≡ other s) → find ≡ other
@@ -110,15 +110,13 @@ module _ (bytes names : List ℕ) (params : ℕ) (firsts : List ℕ) (usable : N
   pub few_names : length names ≤ 72
   few_names = omega (arith, usable.few_parameters, usable.few_names)
 
-  pub known_in_order : (places before first meanings : List ℕ) → length places ≡ 72
-      → MeaningsPut bytes names params firsts (take (length names - 0) places) (length (take (length names - 0) places)) before first
-      → ShortPut first meanings
-      → AllFound bytes names (take (length names - 0) places) meanings (length names)
+  pub known_in_order : (places before meanings : List ℕ) → length places ≡ 72
+      → MeaningsPut bytes names params firsts (take (length names - 0) places) (length (take (length names - 0) places)) before meanings
+      → AllFound bytes names (take (length names - 0) places) (length names)
       → LookupUsable (take (length names - 0) places) (length names) meanings
       × (meaning_by bytes (take (length names - 0) places) (length names) meanings ≡ meaning_in bytes names params firsts)
-  known_in_order places before first meanings long one short found =
-      let l : length (take (length names - 0) places) ≡ length names = part_long (length names) places (omega (arith, few_names)) in
-      let put = meanings_kept bytes names params firsts (take (length names - 0) places) before first meanings (omega (arith, few_names)) one short in (
+  known_in_order places before meanings long put found =
+      let l : length (take (length names - 0) places) ≡ length names = part_long (length names) places (omega (arith, few_names)) in (
         record { some_sorted = omega arith; low = put.low },
         alike (λ s.
             ap (λ (n : ℕ). meaning_by bytes (take (length names - 0) places) n meanings s) (sym l)

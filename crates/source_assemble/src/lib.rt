@@ -24,9 +24,6 @@ use spec_language::{answers, limits as sheet};
 // What ends a line.
 const LINE_FEED: u8 = 10;
 
-// The meanings of names, and the table of those of one byte, of which 122 is the last.
-const MEANINGS: usize = limits::NAMES + 75;
-
 // A text longer than a text may be, told where it should have ended.
 const LONG_TEXT: u64 = faults::LONG_TEXT * faults::KIND + (limits::TEXT_BYTES as u64);
 
@@ -135,12 +132,11 @@ fn read_with(
     ensures declared_len { (length declared.new ≡ name_limit) × (length out.new ≡ sheet_bytes) }
 {
     let mut places = [0usize; limits::NAMES];
-    let mut meanings = [0usize; MEANINGS];
+    let mut meanings = [0usize; limits::NAMES];
     let n = names.len();
     source_index::put_in_order(text, names, &mut places);
     source_index::put_meanings(text, names, params, firsts, &places[0..n], &mut meanings);
-    source_index::put_shorts(text, &places[0..n], &mut meanings);
-    if source_index::all_found(text, names, &places[0..n], &meanings) {
+    if source_index::all_found(text, names, &places[0..n]) {
         return source_behaviours::read_at(text, &places[0..n], n, &meanings, declared, starts, out);
     }
     source_index::put_meanings(text, names, params, firsts, names, &mut meanings);

@@ -11,7 +11,7 @@ use Rattle.source_coding.specs.Places.{name_at, index_in, meaning_in}
 use Rattle.source_names.specs.Search.{found_in}
 use Rattle.source_names.specs.Known.{word_only, meaning_by, meaning_number}
 use Rattle.source_names.proofs.Found.{name_only, found_met, found_plain, number_means_law}
-use Rattle.source_index.specs.Index.{MeaningsPut, ShortPut, AllFound}
+use Rattle.source_index.specs.Index.{MeaningsPut, AllFound}
 
 -- ---- the loops
 
@@ -41,38 +41,15 @@ module _ (text names : List ℕ) (params : ℕ) (firsts places : List ℕ) where
       → MeaningsPut text names params firsts places (length places) before after
   meanings_end p h = record { each = λ i l. p.each i (omega arith); low = p.low; kept = p.kept }
 
--- ---- the table of names of one byte
-
-pub short_start : (l : List ℕ) → All (λ m. m < 8320) l → ShortPut l l
-short_start l h = record { each = λ i l. refl; low = h; kept = refl }
-
-pub short_set : (l : List ℕ) (i v : ℕ) → All (λ m. m < 8320) l → 72 ≤ i → v < 8320 → ShortPut l (set l i v)
-short_set l i v h g k =
-    record {
-      each = λ j b. get_or-set_other l i j v 0 (omega arith);
-      low = all_set (λ m. m < 8320) l i v h k;
-      kept = simp length-set refl;
-    }
-
-pub short_turn : {a b c : List ℕ} → ShortPut a b → ShortPut b c → ShortPut a c
-short_turn x y = record { each = λ i h. y.each i h ∙ x.each i h; low = y.low; kept = y.kept ∙ x.kept }
-
--- the meanings stay
-pub meanings_kept : (text names : List ℕ) (params : ℕ) (firsts places before after last : List ℕ) → length places ≤ 72
-    → MeaningsPut text names params firsts places (length places) before after → ShortPut after last
-    → MeaningsPut text names params firsts places (length places) before last
-meanings_kept text names params firsts places before after last few put s =
-    record { each = λ i h. s.each i (omega arith) ∙ put.each i h; low = s.low; kept = s.kept ∙ put.kept }
-
-module _ (text names places meanings : List ℕ) where
-  pub found_end : {k : ℕ} → AllFound text names places meanings k → length names ≤ k → AllFound text names places meanings (length names)
+module _ (text names places : List ℕ) where
+  pub found_end : {k : ℕ} → AllFound text names places k → length names ≤ k → AllFound text names places (length names)
   found_end a h = record { met = λ j l. a.met j (omega arith); named = λ j l. a.named j (omega arith) }
 
-  pub found_start : AllFound text names places meanings 0
+  pub found_start : AllFound text names places 0
   found_start = record { met = λ j l. absurd (omega arith); named = λ j l. absurd (omega arith) }
 
-  pub found_turn : {k : ℕ} → AllFound text names places meanings k → found_in text places (length places) meanings (name_at text (get_or names k 0)) < length places
-      → index_in text names (name_at text (get_or places k 0)) < length names → AllFound text names places meanings (k + 1)
+  pub found_turn : {k : ℕ} → AllFound text names places k → found_in text places (length places) (name_at text (get_or names k 0)) < length places
+      → index_in text names (name_at text (get_or places k 0)) < length names → AllFound text names places (k + 1)
   found_turn {k} a m i =
       record {
         met = λ j l. split (eqb j k) (λ t. rw (eqb-true j k t) m) (λ f. a.met j (omega (arith, eqb-false j k f)));
@@ -99,16 +76,16 @@ module _ (text names : List ℕ) (params : ℕ) (firsts : List ℕ) (few : param
   declared_word s h = ap word_only (declared_is s h) ∙ name_only text (get_or names (index_in text names s) 0)
 
   module _ (places before meanings : List ℕ) (long : length places ≡ length names) (put : MeaningsPut text names params firsts places (length places) before meanings)
-      (found : AllFound text names places meanings (length names)) (s : List ℕ) where
+      (found : AllFound text names places (length names)) (s : List ℕ) where
     abbrev at_place : ℕ
-    at_place = found_in text places (length places) meanings s
+    at_place = found_in text places (length places) s
 
     found_is : word_only s ≡ true → at_place < length places → s ≡ name_at text (get_or places at_place 0)
-    found_is w h = same_is s (name_at text (get_or places at_place 0)) (found_met text places meanings s w h)
+    found_is w h = same_is s (name_at text (get_or places at_place 0)) (found_met text places s w h)
 
     declared_found : index_in text names s < length names → at_place < length places
     declared_found h =
-        let z : at_place ≡ found_in text places (length places) meanings (name_at text (get_or names (index_in text names s) 0)) = ap (found_in text places (length places) meanings) (declared_is s h) in
+        let z : at_place ≡ found_in text places (length places) (name_at text (get_or names (index_in text names s) 0)) = ap (found_in text places (length places)) (declared_is s h) in
         omega (arith, z, found.met (index_in text names s) h)
 
     meant_there : word_only s ≡ true → at_place < length places → get_or meanings at_place 0 ≡ meaning_number params firsts (index_in text names s)
@@ -137,10 +114,10 @@ module _ (text names : List ℕ) (params : ℕ) (firsts : List ℕ) (few : param
 
   -- one after another
   module _ (before meanings : List ℕ) (put : MeaningsPut text names params firsts names (length names) before meanings) (s : List ℕ) where
-    plain_found : found_in text names 0 meanings s ≡ index_in text names s
+    plain_found : found_in text names 0 s ≡ index_in text names s
     plain_found =
         let z : length names - 0 ≡ length names = omega arith in
-        found_plain text names meanings s ∙ rw (z, take_all (length names) names (omega arith))
+        found_plain text names s ∙ rw (z, take_all (length names) names (omega arith))
 
     pub known_plain : meaning_by text names 0 meanings s ≡ meaning_in text names params firsts s
     unfolding meaning_by meaning_in

@@ -11,13 +11,7 @@ pub record MeaningsPut (text names : List ℕ) (params : ℕ) (firsts places : L
   pub low : All (λ m. m < 8320) after
   pub kept : length after ≡ length before
 
--- no number of the names' meanings is another
-pub record ShortPut (before after : List ℕ) : Type 0 where
-  pub each : (i : ℕ) → i < 72 → get_or after i 0 ≡ get_or before i 0
-  pub low : All (λ m. m < 8320) after
-  pub kept : length after ≡ length before
-
 -- the first k names are found among the places, all of which are in order, and the first k places are those of names
-pub record AllFound (text names places meanings : List ℕ) (k : ℕ) : Type 0 where
-  pub met : (j : ℕ) → j < k → found_in text places (length places) meanings (name_at text (get_or names j 0)) < length places
+pub record AllFound (text names places : List ℕ) (k : ℕ) : Type 0 where
+  pub met : (j : ℕ) → j < k → found_in text places (length places) (name_at text (get_or names j 0)) < length places
   pub named : (j : ℕ) → j < k → index_in text names (name_at text (get_or places j 0)) < length names

@@ -7,14 +7,12 @@ ghost use Rattle.std.specs.Prelude.{true, ◌≡◌, ℕ, ◌≤◌, ◌<◌, �
 ghost use Rattle.lib_base.specs.Basics.{All};
 ghost use Rattle.source_coding.specs.Places.{name_at};
 ghost use Rattle.source_names.specs.Known.{cells_meant, meaning_number};
-ghost use Rattle.source_index.specs.Index.{MeaningsPut, ShortPut, AllFound};
+ghost use Rattle.source_index.specs.Index.{MeaningsPut, AllFound};
 ghost use Rattle.source_coding.specs.Bounds.{name_limit};
 ghost use Rattle.source_names.specs.Units.{meaning_limit};
 ghost use Rattle.spec_language.specs.Limits.{behaviour_limit};
 
-use source_coding::limits::NAMES;
-use source_names::{CELL, Order, SHORT, found_in, index_of, is_short, name_size, order_at};
-use text_marks::byte_at;
+use source_names::{CELL, Order, found_in, index_of, name_size, order_at};
 
 // The number of a behaviour's first cell; 0 past the list's end.
 fn cell_at(firsts: &[usize], i: usize) -> usize
@@ -80,47 +78,15 @@ pub fn put_meanings(
     }
 }
 
-// The number k in the table of names of one byte, where the one at a place has no more.
-fn put_short(text: &[u8], p: usize, k: usize, meanings: &mut [usize])
-    requires k_lt_meaning_limit { k < meaning_limit }
-    requires all { All (λ m. m < meaning_limit) meanings.old }
-    ensures { ShortPut meanings.old meanings.new }
-{
-    if !is_short(text, p) {
-        return;
-    }
-    let i = SHORT + (byte_at(text, p) as usize);
-    if i < NAMES {
-        return;
-    }
-    if i < meanings.len() {
-        meanings[i] = k;
-    }
-}
-
-// The table of names of one byte, behind the meanings: where each is among these places.
-pub fn put_shorts(text: &[u8], places: &[usize], meanings: &mut [usize])
-    requires places_len_bound { length places.now ≤ name_limit }
-    requires all { All (λ m. m < meaning_limit) meanings.old }
-    ensures { ShortPut meanings.old meanings.new }
-{
-    let mut k = 0;
-    while k < places.len() {
-        put_short(text, places[k], k, meanings);
-        k = k + 1;
-    }
-}
-
 // Each name is found among these places, where all are in order, and each of them is a name's.
-pub fn all_found(text: &[u8], names: &[usize], places: &[usize], meanings: &[usize]) -> bool
+pub fn all_found(text: &[u8], names: &[usize], places: &[usize]) -> bool
     requires { length places.now ≡ length names.now }
-    ensures { result ≡ true → AllFound text.now names.now places.now
-        meanings.now (length names.now) }
+    ensures { result ≡ true → AllFound text.now names.now places.now (length names.now) }
 {
     let n = places.len();
     let mut j = 0;
     while j < n {
-        if n <= found_in(text, names[j], places, n, meanings) {
+        if n <= found_in(text, names[j], places, n) {
             return false;
         }
         if n <= index_of(text, places[j], names) {

@@ -1,14 +1,13 @@
 -- A name that is found by halves is the one there; and the numbers beside names mean what they are made for.
 use Rattle.lib_base.proofs.Prelude.{ℕ, ◌≤◌, ◌<◌, ◌+◌, ◌-◌, suc, zero, ◌*◌, ◌%◌, ◌/◌, ◌≡◌, refl, ap, true, false, Bool}
-use Rattle.lib_base.proofs.Prelude.{◌&&◌, List, [], ◌∷◌, length, get_or, take, drop, eqb, ltb, leb, eqb-true, le-ltb}
-use Rattle.lib_base.proofs.Prelude.{lt-ltb, eq-eqb, ltb-false, ltb-true, arith}
+use Rattle.lib_base.proofs.Prelude.{List, [], ◌∷◌, length, get_or, take, drop, eqb, ltb, leb, eqb-true, le-ltb}
+use Rattle.lib_base.proofs.Prelude.{lt-ltb, ltb-false, ltb-true, arith}
 use Rattle.lib_base.specs.Basics.{pick}
 use Rattle.lib_base.proofs.Tools.{by_test, split, through}
 use Rattle.source_language.specs.Tokens.{same, in_word}
 use Rattle.source_language.specs.Scanner.{run_of_kind}
-use Rattle.source_language.proofs.Scans.{and_both}
 use Rattle.source_coding.specs.Places.{name_at, index_in, behaviour_or_row, meaning_at}
-use Rattle.source_names.specs.Search.{order_of_bytes, order_at, by_order, seek, searched_in, short_at, found_in}
+use Rattle.source_names.specs.Search.{order_of_bytes, order_at, by_order, seek, found_in}
 use Rattle.source_names.specs.Known.{word_only, number_means, cells_meant, meaning_number}
 use Rattle.source_names.specs.declared.Order.{Order}
 use Rattle.source_names.specs.declared.Order.TheVariants.{Before, Same, Behind}
@@ -69,51 +68,19 @@ module _ (text places s : List ℕ) (top : ℕ) (only : word_only s ≡ true) wh
       (λ u. by_order_law Met (order_at text (get_or places ((lo + hi) / 2) 0) s) (seek text places s top k lo ((lo + hi) / 2)) ((lo + hi) / 2) (seek text places s top k ((lo + hi) / 2 + 1) hi)
       (λ e. seek_met k lo ((lo + hi) / 2)) (λ e h. order_same text (get_or places ((lo + hi) / 2) 0) s only e) (λ e. seek_met k ((lo + hi) / 2 + 1) hi)))
 
--- by halves
-searched_met : (text places s : List ℕ) → word_only s ≡ true → searched_in text places (length places) s < length places
-    → same s (name_at text (get_or places (searched_in text places (length places) s) 0)) ≡ true
-unfolding searched_in
-searched_met text places s only =
+-- where all are in order
+pub found_met : (text places s : List ℕ) → word_only s ≡ true → found_in text places (length places) s < length places
+    → same s (name_at text (get_or places (found_in text places (length places) s) 0)) ≡ true
+unfolding found_in
+found_met text places s only =
     by_test (λ (r : ℕ). r < length places → same s (name_at text (get_or places r 0)) ≡ true) (ltb (seek text places s (length places) 7 0 (length places)) (length places))
     (λ t. seek_met text places s (length places) only 7 0 (length places)) (λ f h. absurd (omega arith))
 
--- by the table
-one_same : (text s : List ℕ) (q : ℕ) → word_only s ≡ true → length s ≡ 1 → get_or text q 0 ≡ get_or s 0 0 → in_word (get_or text (q + 1) 0) ≡ false → same s (name_at text q) ≡ true
-unfolding word_only same
-one_same text [] q only one e f = absurd (omega arith)
-one_same text (b ∷ c ∷ s) q only one e f = absurd (omega arith)
-one_same text (b ∷ []) q only one e f =
-    let w : in_word (get_or text q 0) ≡ true = rw e (through (in_word b) true only).0 in
-    rw (name_goes text q w, name_stops text (q + 1) f, e, eq-eqb b b refl)
-
-module _ (text places s : List ℕ) (only : word_only s ≡ true) (one : length s ≡ 1) where
-  abbrev MetShort : ℕ → Type 0
-  MetShort r = r < length places → same s (name_at text (get_or places r 0)) ≡ true
-
-  short_met : (k : ℕ) → MetShort (short_at text places (length places) (get_or s 0 0) k)
-  unfolding short_at
-  short_met k =
-      by_test MetShort (leb (length places) k) (λ t h. absurd (omega arith))
-      (λ t. by_test MetShort (leb (length text) (get_or places k 0)) (λ u h. absurd (omega arith))
-      (λ u. by_test MetShort (eqb (get_or text (get_or places k 0) 0) (get_or s 0 0))
-      (λ v. by_test MetShort (in_word (get_or text (get_or places k 0 + 1) 0)) (λ w h. absurd (omega arith))
-      (λ w h. one_same text s (get_or places k 0) only one (eqb-true (get_or text (get_or places k 0) 0) (get_or s 0 0) v) w))
-      (λ v h. absurd (omega arith))))
-
--- where all are in order
-pub found_met : (text places meanings s : List ℕ) → word_only s ≡ true → found_in text places (length places) meanings s < length places
-    → same s (name_at text (get_or places (found_in text places (length places) meanings s) 0)) ≡ true
-unfolding found_in
-found_met text places meanings s only =
-    by_test (λ (r : ℕ). r < length places → same s (name_at text (get_or places r 0)) ≡ true) (ltb 0 (length places) && eqb (length s) 1)
-    (λ t. short_met text places s only (eqb-true (length s) 1 (and_both (ltb 0 (length places)) (eqb (length s) 1) t).1) (get_or meanings (24 + get_or s 0 0) 0))
-    (λ f. searched_met text places s only)
-
 -- ---- where none are, one after another
 
-pub found_plain : (text places meanings s : List ℕ) → found_in text places 0 meanings s ≡ index_in text (take (length places - 0) (drop 0 places)) s
-unfolding found_in searched_in
-found_plain text places meanings s = rw (le-ltb (seek text places s 0 7 0 0) 0 (omega arith)) (omega arith)
+pub found_plain : (text places s : List ℕ) → found_in text places 0 s ≡ index_in text (take (length places - 0) (drop 0 places)) s
+unfolding found_in
+found_plain text places s = rw (le-ltb (seek text places s 0 7 0 0) 0 (omega arith)) (omega arith)
 
 -- ---- meanings by number
 

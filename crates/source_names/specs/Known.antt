@@ -18,7 +18,7 @@ word_only (b ∷ s) = pick (in_word b) (word_only s) false
 -- what a name means, by the places of names, the first of them in order, and their meanings
 unfoldable pub meaning_by : List ℕ → List ℕ → ℕ → List ℕ → List ℕ → NameMeaning
 meaning_by text places sorted meanings s =
-    pick (word_only s && ltb (found_in text places sorted meanings s) (length places)) (number_means (get_or meanings (found_in text places sorted meanings s) 0)) nothing
+    pick (word_only s && ltb (found_in text places sorted s) (length places)) (number_means (get_or meanings (found_in text places sorted s) 0)) nothing
 
 -- the number for the j-th name of those that `meaning_at` goes by
 abbrev pub cells_meant : ℕ → ℕ → ℕ

@@ -1,7 +1,6 @@
--- How a name is found among names in order: one of one byte by a table, others by halves, and among those behind them
--- one after another. Nothing here says
+-- How a name is found among names in order: by halves, and among those behind them one after another. Nothing here says
 -- that they are in order; who looks up by it tells which names are found.
-use Rattle.std.specs.Prelude.{ℕ, zero, suc, ◌+◌, ◌-◌, ◌/◌, ◌&&◌, List, [], ◌∷◌, length, get_or, take, drop, ltb, leb, eqb}
+use Rattle.std.specs.Prelude.{ℕ, zero, suc, ◌+◌, ◌-◌, ◌/◌, List, [], ◌∷◌, length, get_or, take, drop, ltb, leb, eqb}
 use Rattle.lib_base.specs.Basics.{pick}
 use Rattle.source_language.specs.Tokens.{in_word}
 use Rattle.source_coding.specs.Places.{index_in}
@@ -31,18 +30,6 @@ seek text places s none (suc k) lo hi =
     (by_order (order_at text (get_or places ((lo + hi) / 2) 0) s) (seek text places s none k lo ((lo + hi) / 2)) ((lo + hi) / 2) (seek text places s none k ((lo + hi) / 2 + 1) hi)))
 
 -- 127 names take seven steps
-unfoldable pub searched_in : List ℕ → List ℕ → ℕ → List ℕ → ℕ
-searched_in text places sorted s =
+unfoldable pub found_in : List ℕ → List ℕ → ℕ → List ℕ → ℕ
+found_in text places sorted s =
     pick (ltb (seek text places s sorted 7 0 sorted) sorted) (seek text places s sorted 7 0 sorted) (sorted + index_in text (take (length places - sorted) (drop sorted places)) s)
-
--- k where that is one of the first `sorted` places and the name there has the byte b alone; else the number of places
-unfoldable pub short_at : List ℕ → List ℕ → ℕ → ℕ → ℕ → ℕ
-short_at text places sorted b k =
-    pick (leb sorted k) (length places)
-    (pick (leb (length text) (get_or places k 0)) (length places)
-    (pick (eqb (get_or text (get_or places k 0) 0) b) (pick (in_word (get_or text (get_or places k 0 + 1) 0)) (length places) k) (length places)))
-
--- where names are in order, one of one byte stands in a table behind their meanings
-unfoldable pub found_in : List ℕ → List ℕ → ℕ → List ℕ → List ℕ → ℕ
-found_in text places sorted meanings s =
-    pick (ltb 0 sorted && eqb (length s) 1) (short_at text places sorted (get_or s 0 0) (get_or meanings (24 + get_or s 0 0) 0)) (searched_in text places sorted s)

@@ -3,12 +3,12 @@
 
 #![tactic(auto)]
 
-ghost use Rattle.std.specs.Prelude.{true, ◌≡◌, ◌+◌, ◌≤◌, ◌<◌, length, get_or, eqb};
+ghost use Rattle.std.specs.Prelude.{◌≡◌, ◌+◌, ◌≤◌, ◌<◌, length};
 ghost use Rattle.source_language.specs.Tokens.{same};
 ghost use Rattle.source_language.specs.Limits.{among};
 ghost use Rattle.source_coding.specs.Places.{name_at, names_held, index_in};
 ghost use Rattle.source_names.specs.Bytes.{same_bytes};
-ghost use Rattle.source_names.specs.Search.{order_of_bytes, order_at, seek, searched_in, short_at, found_in};
+ghost use Rattle.source_names.specs.Search.{order_of_bytes, order_at, seek, found_in};
 ghost use Rattle.source_names.specs.Units.{halvings};
 
 use source_tokens::{in_word, word_end};
@@ -16,10 +16,6 @@ use text_marks::byte_at;
 
 // In the number that tells what a name means, so much stands for each cell that it has; a parameter has none.
 pub const CELL: usize = 128;
-
-// Behind the meanings of as many names as there can be, a table has the places of those of one byte: from here on by
-// the byte, of which none is below 48.
-pub const SHORT: usize = 24;
 
 // So many halves make one of all names.
 const STEPS: usize = 7;
@@ -187,91 +183,15 @@ fn sought(text: &[u8], p: usize, n: usize, places: &[usize], top: usize) -> usiz
     top
 }
 
-// The name at a place has one byte. A longer one is told by the byte behind alone.
-pub fn is_short(text: &[u8], p: usize) -> bool
-    ensures { result ≡ eqb (length (name_at text.now p)) 1 }
-{
-    if text.len() <= p {
-        return false;
-    }
-    if in_word(byte_at(text, p + 1)) {
-        return false;
-    }
-    in_word(text[p])
-}
-
-// A number of a list; 0 past its end.
-fn entry_at(list: &[usize], i: usize) -> usize
-    ensures { result ≡ get_or list.now i 0 }
-{
-    if i < list.len() {
-        return list[i];
-    }
-    0
-}
-
-// The number k where that is one of `sorted` places, and the name there has the byte b alone; else how many there are.
-fn short_at(text: &[u8], b: u8, places: &[usize], sorted: usize, k: usize) -> usize
-    requires { sorted ≤ length places.now }
-    ensures { result ≡ short_at text.now places.now sorted b k }
-{
-    if sorted <= k {
-        return places.len();
-    }
-    let q = places[k];
-    if text.len() <= q {
-        return places.len();
-    }
-    if text[q] != b {
-        return places.len();
-    }
-    if in_word(byte_at(text, q + 1)) {
-        return places.len();
-    }
-    k
-}
-
-// Which of the names at these places, some of them in order, is the one of one byte at p: the table behind the meanings
-// tells where to look.
-pub fn found_short(
-    text: &[u8],
-    p: usize,
-    places: &[usize],
-    sorted: usize,
-    meanings: &[usize],
-) -> usize
-    requires sorted_in_bounds { sorted ≤ length places.now }
-    requires sorted_nonzero { (0 < sorted) × (eqb (length (name_at text.now p)) 1 ≡ true) }
-    ensures { result ≡ found_in text.now places.now sorted meanings.now (name_at text.now p) }
-{
-    let b = byte_at(text, p);
-    let k = entry_at(meanings, SHORT + (b as usize));
-    short_at(text, b, places, sorted, k)
-}
-
 // Which of the names at these places is the one at p, from 0: the first `sorted`, which are in order, are searched by
 // halves, those behind them one after another. Their number where none is.
-pub fn searched_in(text: &[u8], p: usize, places: &[usize], sorted: usize) -> usize
+pub fn found_in(text: &[u8], p: usize, places: &[usize], sorted: usize) -> usize
     requires { sorted ≤ length places.now }
-    ensures { result ≡ searched_in text.now places.now sorted (name_at text.now p) }
+    ensures { result ≡ found_in text.now places.now sorted (name_at text.now p) }
 {
     let k = sought(text, p, name_size(text, p), places, sorted);
     if k < sorted {
         return k;
     }
     sorted + index_of(text, p, &places[sorted..places.len()])
-}
-
-// Which of the names at these places is the one at p, by the table or by a search.
-pub fn found_in(text: &[u8], p: usize, places: &[usize], sorted: usize, meanings: &[usize]) -> usize
-    requires { sorted ≤ length places.now }
-    ensures { result ≡ found_in text.now places.now sorted meanings.now (name_at text.now p) }
-{
-    if sorted == 0 {
-        return searched_in(text, p, places, sorted);
-    }
-    if is_short(text, p) {
-        return found_short(text, p, places, sorted, meanings);
-    }
-    searched_in(text, p, places, sorted)
 }

@@ -9,7 +9,6 @@ ghost use Rattle.source_language.specs.Meaning.{NameMeaning, a_row, name_term, c
 ghost use Rattle.source_language.specs.Reader.{read_constant, cell_of};
 ghost use Rattle.source_coding.specs.Places.{tokens_from, name_at, behaviour_or_row};
 ghost use Rattle.source_names.specs.Known.{number_means, meaning_by};
-ghost use Rattle.source_names.specs.Search.{found_in};
 ghost use Rattle.source_tokens.specs.Token.{TokenAt, TokenWithin};
 ghost use Rattle.source_due.specs.Due.{DueWithin};
 ghost use Rattle.source_field.specs.Formula.{Readable, FormulaRead, FormulaWithin, FewerLeft, PartRead};
@@ -24,7 +23,7 @@ use sheet_field::{sizes, tags};
 use source_coding::{faults, limits, signs};
 use source_due::{Due, fault_word, number_due, sign_due, value_of};
 use source_field::{Cursor, Read};
-use source_names::{CELL, found_short, is_short, searched_in};
+use source_names::{CELL, found_in};
 use source_tokens::{Token, in_word, pass_over, token_at};
 use text_marks::byte_at;
 
@@ -81,20 +80,6 @@ fn meaning_at(number: usize) -> Meaning
     behaviour_or_row(number % CELL, number / CELL)
 }
 
-// Which of the names at these places is the one at p: `found_in` in parts, so that no call is made for a name.
-fn name_found(text: &[u8], p: usize, places: &[usize], sorted: usize, meanings: &[usize]) -> usize
-    requires { sorted ≤ length places.now }
-    ensures { result ≡ found_in text.now places.now sorted meanings.now (name_at text.now p) }
-{
-    if sorted == 0 {
-        return searched_in(text, p, places, sorted);
-    }
-    if is_short(text, p) {
-        return found_short(text, p, places, sorted, meanings);
-    }
-    searched_in(text, p, places, sorted)
-}
-
 // What the name at a place means.
 fn meaning_of(text: &[u8], p: usize, places: &[usize], sorted: usize, meanings: &[usize]) -> Meaning
     requires sorted_in_bounds { sorted ≤ length places.now }
@@ -102,7 +87,7 @@ fn meaning_of(text: &[u8], p: usize, places: &[usize], sorted: usize, meanings: 
     ensures result_value { meant_by result ≡ meaning_by text.now places.now sorted meanings.now (name_at text.now p) }
     ensures meaning_within { MeaningWithin result }
 {
-    let j = name_found(text, p, places, sorted, meanings);
+    let j = found_in(text, p, places, sorted);
     if places.len() <= j {
         return Meaning::Nothing;
     }

@@ -1,19 +1,23 @@
--- By the table where names are in order and this one has one byte, else by the search.
-use Rattle.lib_base.proofs.Prelude.{◌∙◌, sym, rules, arith}
-use Rattle.source_names.proofs.Short.{found_long_is, found_none_is}
+-- By halves among those in order, else one after another behind them.
+use Rattle.lib_base.proofs.Prelude.{le-ltb, lt-ltb, rules}
+use Rattle.source_names.specs.Search.{found_in}
 use Rattle.source_names.proofs.found_in.Statement.{statement}
 use Rattle.source_names.proofs.found_in.Tie as tie
+
+returns : tie.Need-returns
+unfolding found_in
+returns c =
+    let at_sought = c.before in
+    rw (← at_sought.sought.ensures, lt-ltb at_sought.sought.result at_sought.before.before.before.before.args.sorted c.if1.true)
+
+returns_2 : tie.Need-returns-2
+unfolding found_in
+returns_2 c =
+    let at_sought = c.before.before.before in
+    rw (← at_sought.sought.ensures, le-ltb at_sought.sought.result at_sought.before.before.before.before.args.sorted c.before.before.if1.false, c.index_of.ensures.0)
 
 pub found_in_spec : {M : Type 1} → statement M
 found_in_spec =
     tie.close
-    (tie.spec
-    (λ c κs. search rules)
-    (λ c. c.searched-in.ensures ∙ sym (found_none_is _ _ _ _ _ c.before.if1.true))
-    (λ c κs. search rules)
-    (λ c κs.
-    let at_short = c.before in
-    (at_short.before.before.before.before.before.requires, (omega (arith, at_short.before.if1.false), sym at_short.is-short.ensures ∙ c.if2.true)))
-    (λ c. search rules)
-    (λ c κs. search rules)
-    (λ c. c.searched-in2.ensures ∙ sym (found_long_is _ _ _ _ _ (sym c.before.before.is-short.ensures ∙ c.before.if2.false))))
+    (tie.spec (λ c κs. search rules) (λ c κs. search rules) returns (λ c. search rules) (λ c. search rules) (λ c. search rules)
+    (λ c. search rules) (λ c κs. search rules) (λ c. search rules) returns_2)
