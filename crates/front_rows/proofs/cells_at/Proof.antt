@@ -13,6 +13,6 @@ cells_at_spec =
     (λ c. (search code depth 12, omega arith))
     (λ c. search rules)
     (λ c. search rules)
-    (λ c. omega (arith, c.shared-slice-known2.given 3))
-    (λ c. (search code depth 12, omega (arith, c.shared-slice-known2.given 3)))
+    (λ c. omega (arith, c.shared_slice_known-then-s-eq-ROW-1.given 3))
+    (λ c. (search code depth 12, omega (arith, c.shared_slice_known-then-s-eq-ROW-1.given 3)))
     (λ c. (search code depth 12, omega arith)))

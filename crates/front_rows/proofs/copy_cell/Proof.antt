@@ -4,22 +4,22 @@ use Rattle.front_rows.specs.Cells.{cell_copied}
 use Rattle.front_rows.proofs.copy_cell.Statement.{statement}
 use Rattle.front_rows.proofs.copy_cell.Tie as tie
 
-same_length : tie.Need-same-length
+same_length : tie.Need-shape_of-draft
 unfolding cell_copied
 same_length c =
     let at_copy_start = c.before.before.before.before.before.before in
     rw length-set
-    (c.before.before.copy-viewer.auto.0 ∙ at_copy_start.Copy-start.auto.0
-    ∙ at_copy_start.before.before.before.before.copy-entries.auto.0)
+    (c.before.before.copy_viewer.auto.0 ∙ at_copy_start.Copy-start.auto.0
+    ∙ at_copy_start.before.before.before.before.copy_entries.auto.0)
 
 returns : tie.Need-returns
 unfolding cell_copied
 returns c =
     let at_copy_start = c.before.before.before.before.before.before in
     rw (
-      c.before.before.copy-viewer.ensures,
-      at_copy_start.Copy-start.ensures,
-      at_copy_start.before.before.before.before.copy-entries.ensures,
+      c.before.before.copy_viewer.ensures,
+      at_copy_start.copy_start.ensures,
+      at_copy_start.before.before.before.before.copy_entries.ensures,
     )
 
 pub copy_cell_spec : {M : Type 1} → statement M

@@ -14,10 +14,10 @@ turn : {d₀ : List ℕ} {i k : ℕ} {d : List ℕ} {e : ℕ} → Turn d₀ i k 
 unfolding entries_copied
 turn {d₀} {i} {k} {d} {e} t h = record { same = rw (add-one e, ← t.same); within = omega arith; long = length-set d (2048 + k * 32 + e) _ ∙ t.long }
 
-abbrev invariant-loop : tie.invariant-loop
+abbrev invariant-loop : tie.invariant-loop-e
 invariant-loop draft₀ i k e₀ draft e = Turn draft₀ i k draft e
 
-abbrev decreases-loop : tie.decreases-loop
+abbrev decreases-loop : tie.decreases-loop-e
 decreases-loop draft₀ i k e₀ draft e = 32 - e
 
 pub copy_entries_spec : {M : Type 1} → statement M
@@ -27,10 +27,10 @@ copy_entries_spec =
     (tie.spec invariant-loop decreases-loop
     (λ c. record { same = refl; within = omega arith; long = refl })
     (omega arith) (omega arith) (omega arith) (omega arith)
-    (λ c. omega (arith, c.before.before.loop.invariant.long))
+    (λ c. omega (arith, c.before.before.loop-e.invariant.long))
     (omega arith) (omega arith) (omega arith) (omega arith)
-    (λ c. omega (arith, c.before.before.loop.invariant.long))
+    (λ c. omega (arith, c.before.before.loop-e.invariant.long))
     (omega arith) (omega arith)
-    (λ c. turn c.before.before.loop.invariant (omega arith))
-    (λ c. c.before.loop.invariant.long)
-    (λ c. let e : c.before.loop.e ≡ 32 = omega arith in rw e at c.before.loop.invariant.same))
+    (λ c. turn c.before.before.loop-e.invariant (omega arith))
+    (λ c. c.before.loop-e.invariant.long)
+    (λ c. let e : c.before.loop-e.e ≡ 32 = omega arith in rw e at c.before.loop-e.invariant.same))

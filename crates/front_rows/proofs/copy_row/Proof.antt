@@ -24,16 +24,16 @@ turn {n = n} t h e l = record { same = rw (add-one n, ← t.same) e; within = om
 end : {d₀ : List ℕ} {i count : ℕ} {d : List ℕ} {n : ℕ} → Turn d₀ i count d n → count ≤ n + 1 → d ≡ cells_copied d₀ i count (count - 1)
 end {count = count} {n = n} t h = let e : n ≡ count - 1 = omega (arith, t.within) in rw e at t.same
 
-abbrev invariant-loop : tie.invariant-loop
+abbrev invariant-loop : tie.invariant-loop-n
 invariant-loop draft₀ i count n₀ draft n = Turn draft₀ i count draft n
 
-abbrev decreases-loop : tie.decreases-loop
+abbrev decreases-loop : tie.decreases-loop-n
 decreases-loop draft₀ i count n₀ draft n = count - n
 
-loop_again : tie.Need-loop-preserved invariant-loop decreases-loop
+loop_again : tie.Need-loop-n-preserved invariant-loop decreases-loop
 loop_again c =
-    turn c.before.before.before.before.before.loop.invariant (omega arith)
-    c.before.before.copy-cell.ensures c.before.before.copy-cell.auto.0
+    turn c.before.before.before.before.before.loop-n.invariant (omega arith)
+    c.before.before.copy_cell.ensures c.before.before.copy_cell.auto.0
 
 pub copy_row_spec : {M : Type 1} → statement M
 unfolding row_copied
@@ -41,9 +41,9 @@ copy_row_spec =
     tie.close
     (tie.spec invariant-loop decreases-loop (omega arith) (omega arith) (omega arith) (omega arith)
     (λ c. begin (rw length-set c.before.requires.0))
-    (λ c. omega (arith, c.loop.invariant.within))
+    (λ c. omega (arith, c.loop-n.invariant.within))
     (omega arith) (omega arith) (omega arith) (omega arith) (omega arith)
-    (λ c κs. omega (arith, c.before.before.loop.invariant.long, c.before.before.loop.invariant.full))
+    (λ c κs. omega (arith, c.before.before.loop-n.invariant.long, c.before.before.loop-n.invariant.full))
     (omega arith) (omega arith) loop_again
-    (λ c. omega (arith, c.before.loop.invariant.long, c.before.loop.invariant.full, c.before.before.before.requires.0))
-    (λ c. end c.before.loop.invariant c.loop-test.false))
+    (λ c. omega (arith, c.before.loop-n.invariant.long, c.before.loop-n.invariant.full, c.before.before.before.requires.0))
+    (λ c. end c.before.loop-n.invariant c.loop-n-test.false))
