@@ -10,7 +10,7 @@ add_need_spec =
     tie.close
     (tie.spec
     (λ c κs. omega arith)
-    (λ c b. c.insert.ensures b ∙ add_one_name _ _ _ b c.before.before.before.if1.true c.before.before.if2.true c.before.if3.true (bit c.before.before.before.before.args.set b))
-    (λ c b. add_own _ _ _ b c.if3.false _)
-    (λ c b. add_far _ _ _ b c.if2.false _)
-    (λ c b. add_other _ _ _ b c.if1.false _))
+    (λ c b. c.insert.ensures b ∙ add_one_name _ _ _ b c.before.before.before.if-x-eq-NAME.true c.before.before.if-j-n.true c.before.if-j-but.true (bit c.before.before.before.before.args.set b))
+    (λ c b. add_own _ _ _ b c.if-j-but.false _)
+    (λ c b. add_far _ _ _ b c.if-j-n.false _)
+    (λ c b. add_other _ _ _ b c.if-x-eq-NAME.false _))

@@ -10,6 +10,6 @@ close_left_spec =
     (λ c κs. search rules)
     (λ c κs. search rules)
     (λ c. search rules)
-    (λ c. let e = c.before.before.close-all.ensures in record { reached = λ i h f. e.reached i i h h; long = e.long })
-    (λ c. let l = c.before.first-left.ensures in
-    record { reached = λ i h f. absurd (true≢false (sym (l.before i (omega (arith, c.if1.false))) ∙ f)); long = refl }))
+    (λ c. let e = c.before.before.close_all.ensures in record { reached = λ i h f. e.reached i i h h; long = e.long })
+    (λ c. let l = c.before.first_left.ensures in
+    record { reached = λ i h f. absurd (true≢false (sym (l.before i (omega (arith, c.if-first_left-n.false))) ∙ f)); long = refl }))

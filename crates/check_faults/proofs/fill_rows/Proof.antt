@@ -4,10 +4,10 @@ use Rattle.check_faults.proofs.RowLaws.{Filled, filled_start, filled_turn, fille
 use Rattle.check_faults.proofs.fill_rows.Statement.{statement}
 use Rattle.check_faults.proofs.fill_rows.Tie as tie
 
-abbrev invariant-loop : tie.invariant-loop
+abbrev invariant-loop : tie.invariant-loop-i
 invariant-loop d e n rows₀ i₀ rows i = Filled d e n rows₀ rows i
 
-abbrev decreases-loop : tie.decreases-loop
+abbrev decreases-loop : tie.decreases-loop-i
 decreases-loop d e n rows₀ i₀ rows i = n - i
 
 pub fill_rows_spec : {M : Type 1} → statement M
@@ -19,13 +19,13 @@ fill_rows_spec =
     (λ c. filled_start _ _ _ _)
     (λ c κs. omega arith)
     (λ c κs.
-    let b = c.before.before.before.before.before.requires.4 c.before.before.loop.i (omega arith) in
-    let h = rw (← c.entry_of_law.ensures) at b in
+    let b = c.before.before.before.before.before.requires.4 c.before.before.loop-i.i (omega arith) in
+    let h = rw (← c.entry_of.ensures) at b in
     omega arith)
     (λ c. omega arith)
-    (λ c. omega (arith, c.before.before.before.loop.invariant.long))
+    (λ c. omega (arith, c.before.before.before.loop-i.invariant.long))
     (λ c. omega arith)
     (λ c. omega arith)
-    (λ c. filled_turn _ c.before.before.before.loop.invariant c.before.before.before.before.before.before.requires.1 c.before.before.before.before.before.before.requires.3 c.before.before.loop-test.true c.before.entry_of_law.ensures c.row_of.ensures)
-    (λ c. c.before.loop.invariant.long)
-    (λ c. filled_end c.before.loop.invariant c.loop-test.false))
+    (λ c. filled_turn _ c.before.before.before.loop-i.invariant c.before.before.before.before.before.before.requires.1 c.before.before.before.before.before.before.requires.3 c.before.before.loop-i-test.true c.before.entry_of.ensures c.row_of.ensures)
+    (λ c. c.before.loop-i.invariant.long)
+    (λ c. filled_end c.before.loop-i.invariant c.loop-i-test.false))

@@ -9,10 +9,10 @@ record Turn (set n i : ℕ) : Type 0 where
   before : (j : ℕ) → j < i → bit set j ≡ true
   within : i ≤ n
 
-abbrev invariant-loop : tie.invariant-loop
+abbrev invariant-loop : tie.invariant-loop-i
 invariant-loop placed n i₀ i = Turn placed n i
 
-abbrev decreases-loop : tie.decreases-loop
+abbrev decreases-loop : tie.decreases-loop-i
 decreases-loop placed n i₀ i = n - i
 
 pub first_left_spec : {M : Type 1} → statement M
@@ -23,9 +23,9 @@ first_left_spec =
     decreases-loop
     (λ c. record { before = below_none _; within = omega arith })
     (λ c κs. omega arith)
-    (λ c. let t = c.before.before.before.loop.invariant in record { before = t.before; within = t.within })
+    (λ c. let t = c.before.before.before.loop-i.invariant in record { before = t.before; within = t.within })
     (λ c. omega arith)
     (λ c. omega arith)
-    (λ c. let t = c.before.before.before.loop.invariant in
-    record { before = below_more _ _ t.before (sym c.before.contains.ensures ∙ not-false _ c.if1.false); within = omega arith })
-    (λ c. let t = c.before.loop.invariant in record { before = t.before; within = t.within }))
+    (λ c. let t = c.before.before.before.loop-i.invariant in
+    record { before = below_more _ _ t.before (sym c.before.contains.ensures ∙ not-false _ c.if-not-contains.false); within = omega arith })
+    (λ c. let t = c.before.loop-i.invariant in record { before = t.before; within = t.within }))

@@ -51,10 +51,10 @@ stop : (d : List ℕ) (ev bs e b : ℕ) → e ≤ ev → b < bs → round d bs e
 unfolding cyclic_on
 stop d ev bs e b h k q = sym (any_some (ev + 1) (λ f. any_below bs (round d bs f)) e (omega arith) (any_some bs (round d bs e) b k q))
 
-abbrev invariant-loop : tie.invariant-loop
+abbrev invariant-loop : tie.invariant-loop-b
 invariant-loop d ev bs rows found₀ e placed b₀ found b = Tried d bs e b found
 
-abbrev decreases-loop : tie.decreases-loop
+abbrev decreases-loop : tie.decreases-loop-b
 decreases-loop d ev bs rows found₀ e placed b₀ found b = bs - b
 
 abbrev invariant-search : tie.invariant-search
@@ -63,32 +63,32 @@ invariant-search d ev bs rows₀ found₀ e₀ rows found e = Passed d ev bs e f
 abbrev decreases-search : tie.decreases-search
 decreases-search d ev bs rows₀ found₀ e₀ rows found e = ev + 1 - e
 
-reach_all_requires : tie.Need-reach-all-requires invariant-loop decreases-loop invariant-search decreases-search
+reach_all_requires : tie.Need-reach_all-placed-requires invariant-loop decreases-loop invariant-search decreases-search
 reach_all_requires c κs =
     let p = c.before.before.before.before.requires in
     (p.0, c.before.before.search.invariant.long, omega arith, p.2, p.3 c.before.before.search.e (omega arith))
 
-reaches_itself_requires : tie.Need-reaches-itself-requires invariant-loop decreases-loop invariant-search decreases-search
+reaches_itself_requires : tie.Need-reaches_itself-requires invariant-loop decreases-loop invariant-search decreases-search
 reaches_itself_requires c κs =
     let f = c.before.before.before.before in
-    (f.reach-all.auto.1.1.1.0 ∙ f.before.before.before.search.invariant.long, omega arith)
+    (f.reach_all-placed.auto.1.1.1.0 ∙ f.before.before.before.search.invariant.long, omega arith)
 
 -- what is told by set and rows holds of the event
-loop_again : tie.Need-loop-preserved invariant-loop decreases-loop invariant-search decreases-search
+loop_again : tie.Need-loop-b-preserved invariant-loop decreases-loop invariant-search decreases-search
 loop_again c =
-    let h = c.before.before.before.loop-test.true in
-    let e = c.before.before.before.before.before.before.reach-all.ensures.told _ h in
-    turn c.before.before.before.before.loop.invariant (omega arith) (sym e ∙ sym c.before.reaches-itself.ensures ∙ c.if1.false)
+    let h = c.before.before.before.loop-b-test.true in
+    let e = c.before.before.before.before.before.before.reach_all-placed.ensures.told _ h in
+    turn c.before.before.before.before.loop-b.invariant (omega arith) (sym e ∙ sym c.before.reaches_itself.ensures ∙ c.if-reaches_itself.false)
 
 search_again : tie.Need-search-preserved invariant-loop decreases-loop invariant-search decreases-search
-search_again c = pass c.before.before.before.before.before.before.search.invariant (omega arith) c.before.loop.invariant (omega arith) c.before.before.before.reach-all.auto.1.1.1.0
+search_again c = pass c.before.before.before.before.before.before.search.invariant (omega arith) c.before.loop-b.invariant (omega arith) c.before.before.before.reach_all-placed.auto.1.1.1.0
 
 -- left where one reaches itself
-returns_2 : tie.Need-returns-2 invariant-loop decreases-loop invariant-search decreases-search
+returns_2 : tie.Need-returns-then-reaches_itself invariant-loop decreases-loop invariant-search decreases-search
 returns_2 c =
     let f = c.before.before.before.before.before.before in
-    let h = c.before.before.before.loop-test.true in
-    stop _ _ _ f.before.before.before.search.e _ (omega arith) h (sym (f.reach-all.ensures.told _ h) ∙ sym c.before.reaches-itself.ensures ∙ c.if1.true)
+    let h = c.before.before.before.loop-b-test.true in
+    stop _ _ _ f.before.before.before.search.e _ (omega arith) h (sym (f.reach_all-placed.ensures.told _ h) ∙ sym c.before.reaches_itself.ensures ∙ c.if-reaches_itself.true)
 
 pub has_cycle_spec : {M : Type 1} → statement M
 has_cycle_spec =

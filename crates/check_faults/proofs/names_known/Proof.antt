@@ -26,10 +26,10 @@ end : {d : List ℕ} {b n k : ℕ} → Turn d b n k → k ≤ 0 → true ≡ nam
 unfolding names_known
 end {k} t h = let s : k ≡ 0 = omega arith in rw s at t.whole
 
-abbrev invariant-loop : tie.invariant-loop
+abbrev invariant-loop : tie.invariant-loop-k
 invariant-loop d n b k₀ k = Turn d b n k
 
-abbrev decreases-loop : tie.decreases-loop
+abbrev decreases-loop : tie.decreases-loop-k
 decreases-loop d n b k₀ k = k
 
 pub names_known_spec : {M : Type 1} → statement M
@@ -43,7 +43,7 @@ names_known_spec =
     (λ c. omega arith)
     (λ c. omega arith)
     (λ c κs. tt)
-    (λ c. stop c.before.before.before.before.loop.invariant (omega arith) (sym c.before.is-stray.ensures ∙ c.if1.true))
+    (λ c. stop c.before.before.before.before.loop-k.invariant (omega arith) (sym c.before.is_stray.ensures ∙ c.if-is_stray.true))
     (λ c. omega arith)
-    (λ c. turn c.before.before.before.before.loop.invariant (omega arith) (sym c.before.is-stray.ensures ∙ c.if1.false))
-    (λ c. end c.before.loop.invariant (omega arith)))
+    (λ c. turn c.before.before.before.before.loop-k.invariant (omega arith) (sym c.before.is_stray.ensures ∙ c.if-is_stray.false))
+    (λ c. end c.before.loop-k.invariant (omega arith)))

@@ -4,10 +4,10 @@ use Rattle.check_faults.proofs.RowLaws.{Gathered, gathered_start, gathered_turn,
 use Rattle.check_faults.proofs.need_set.Statement.{statement}
 use Rattle.check_faults.proofs.need_set.Tie as tie
 
-abbrev invariant-loop : tie.invariant-loop
+abbrev invariant-loop : tie.invariant-loop-k
 invariant-loop d i but n start count set₀ k₀ set k = Gathered d i but n start count set k
 
-abbrev decreases-loop : tie.decreases-loop
+abbrev decreases-loop : tie.decreases-loop-k
 decreases-loop d i but n start count set₀ k₀ set k = count - k
 
 pub need_set_spec : {M : Type 1} → statement M
@@ -24,5 +24,5 @@ need_set_spec =
     (λ c κs. omega arith)
     (λ c. omega arith)
     (λ c. omega arith)
-    (λ c. gathered_turn c.before.before.before.before.loop.invariant c.before.before.before.before.before.before.requires.0 c.before.before.before.before.before.before.requires.3 c.before.before.before.loop-test.true c.before.moved-node.ensures c.add-need.ensures)
-    (λ c b. gathered_end c.before.loop.invariant c.loop-test.false b))
+    (λ c. gathered_turn c.before.before.before.before.loop-k.invariant c.before.before.before.before.before.before.requires.0 c.before.before.before.before.before.before.requires.3 c.before.before.before.loop-k-test.true c.before.moved_node.ensures c.add_need-set.ensures)
+    (λ c b. gathered_end c.before.loop-k.invariant c.loop-k-test.false b))

@@ -10,4 +10,4 @@ place_all_spec =
     (tie.spec
     (λ c. search rules)
     (λ c κs. let p = c.before.before.requires in (p.0, search rules, p.1, p.2))
-    (λ c. let p = c.before.before.before.before.requires in placed_on _ _ p.1 _ _ _ _ c.before.arrange.ensures))
+    (λ c. let p = c.before.before.before.before.requires in placed_on _ _ p.1 _ _ _ _ c.before.arrange-arranged.ensures))

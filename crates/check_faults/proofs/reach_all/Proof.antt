@@ -26,12 +26,12 @@ reach_all_spec =
     (λ c κs. c.before.before.before.requires)
     (λ c κs. let f = c.before.before.before in
     let p = f.before.before.before.before.requires in
-    (f.fill-rows.auto.1.1.1.0 ∙ p.1, p.3, record { none_past = rows_past f.fill-rows.ensures }))
+    (f.fill_rows.auto.1.1.1.0 ∙ p.1, p.3, record { none_past = rows_past f.fill_rows.ensures }))
     (λ c κs. let f = c.before.before.before.before.before in
     let p = f.before.before.before.before.requires in
-    (f.fill-rows.auto.1.1.1.0 ∙ p.1, p.3))
+    (f.fill_rows.auto.1.1.1.0 ∙ p.1, p.3))
     (λ c. let f = c.before.before.before.before.before.before.before.before in
-    c.before.before.close-left.ensures.long ∙ f.fill-rows.auto.1.1.1.0)
+    c.before.before.close_left.ensures.long ∙ f.fill_rows.auto.1.1.1.0)
     (λ c. let f = c.before.before.before.before.before.before.before.before in
     let p = f.before.before.before.before.requires in
-    round_told _ _ _ p.0 p.3 p.4 f.fill-rows.ensures c.before.before.before.before.place_all.ensures c.before.before.close-left.ensures))
+    round_told _ _ _ p.0 p.3 p.4 f.fill_rows.ensures c.before.before.before.before.place_all-placed.ensures c.before.before.close_left.ensures))

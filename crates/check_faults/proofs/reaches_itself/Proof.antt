@@ -11,10 +11,10 @@ reaches_itself_spec =
     tie.close
     (tie.spec
     (λ c κs. omega arith)
-    (λ c. let p = c.before.before.before.args in let h : bit p.placed p.b ≡ true = sym c.before.contains.ensures ∙ c.if1.true in rw h refl)
+    (λ c. let p = c.before.before.before.args in let h : bit p.placed p.b ≡ true = sym c.before.contains.ensures ∙ c.if-contains.true in rw h refl)
     (λ c. omega arith)
     (λ c. omega arith)
     (λ c κs. omega arith)
     (λ c. let p = c.before.before.before.before.before.args in
-    let h : bit p.placed p.b ≡ false = sym c.before.before.before.contains.ensures ∙ c.before.before.if1.false in
-    rw h c.contains2.ensures))
+    let h : bit p.placed p.b ≡ false = sym c.before.before.before.contains.ensures ∙ c.before.before.if-contains.false in
+    rw h c.contains-2.ensures))

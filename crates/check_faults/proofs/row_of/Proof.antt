@@ -10,7 +10,7 @@ row_of_spec =
     tie.close
     (tie.spec
     (λ c κs. search rules)
-    (λ c b. c.need-set.ensures b ∙ ap (λ (y : Bool). ltb b c.before.before.before.args.n && y) (needs_passive _ _ _ b c.before.if1.true))
+    (λ c b. c.need_set.ensures b ∙ ap (λ (y : Bool). ltb b c.before.before.before.args.n && y) (needs_passive _ _ _ b c.before.if-entry-eq-PASSIVE.true))
     (λ c κs. search rules)
-    (λ c b. c.need-set2.ensures b ∙ ap (λ (y : Bool). ltb b c.before.before.before.before.args.n && y) (needs_own _ _ _ b c.before.if2.true))
-    (λ c b. bit_none b ∙ sym (and-false (ltb b c.before.before.before.args.n)) ∙ ap (λ (y : Bool). ltb b c.before.before.before.args.n && y) (needs_none c.before.before.before.args.d.now c.before.before.before.args.i _ b c.before.if1.false c.if2.false)))
+    (λ c b. c.need_set-then-entry-eq-IMMEDIATE.ensures b ∙ ap (λ (y : Bool). ltb b c.before.before.before.before.args.n && y) (needs_own _ _ _ b c.before.if-entry-eq-IMMEDIATE.true))
+    (λ c b. bit_none b ∙ sym (and-false (ltb b c.before.before.before.args.n)) ∙ ap (λ (y : Bool). ltb b c.before.before.before.args.n && y) (needs_none c.before.before.before.args.d.now c.before.before.before.args.i _ b c.before.if-entry-eq-PASSIVE.false c.if-entry-eq-IMMEDIATE.false)))
