@@ -11,4 +11,4 @@ apply_at_spec =
     (λ c κs. search rules)
     (λ c κs. search rules)
     (λ c κs. search rules)
-    (λ c. cc (c.word_of.ensures, c.before.argument-at3.ensures, c.before.before.argument-at2.ensures, c.before.before.before.argument_at.ensures)))
+    (λ c. cc (c.word_of.ensures, c.before.argument_at-c.ensures, c.before.before.argument_at-b.ensures, c.before.before.before.argument_at-a.ensures)))

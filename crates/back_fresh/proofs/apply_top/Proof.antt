@@ -14,4 +14,4 @@ apply_top_spec =
     (λ c. search rules)
     (λ c. search rules)
     (λ c. search rules)
-    (λ c. (search code depth 12, (rw c.apply_at.ensures (search code depth 12), search rules))))
+    (λ c. (search code depth 12, (rw c.apply_at-w.ensures (search code depth 12), search rules))))

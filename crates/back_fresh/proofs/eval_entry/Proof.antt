@@ -13,4 +13,4 @@ eval_entry_spec =
     (λ c. search rules)
     (λ c. search code depth 12)
     (λ c κs. search rules)
-    (λ c. rw c.eval-nodes.ensures (search code depth 12)))
+    (λ c. rw c.eval_nodes.ensures (search code depth 12)))

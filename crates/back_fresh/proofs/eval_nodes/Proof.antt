@@ -40,10 +40,10 @@ end : {d : List ℕ} {start count : ℕ} {v st : List ℕ} {k i : ℕ} → Turn 
 unfolding nodes_on
 end {count = count} {i = i} t h = let s : count - i ≡ 0 = omega arith in rw s at t.whole
 
-abbrev invariant-loop : tie.invariant-loop
+abbrev invariant-loop : tie.invariant-loop-i
 invariant-loop d b start count v st₀ k₀ i₀ st k i = Turn (used_by d b) start count v st k i
 
-abbrev decreases-loop : tie.decreases-loop
+abbrev decreases-loop : tie.decreases-loop-i
 decreases-loop d b start count v st₀ k₀ i₀ st k i = count - i
 
 pub eval_nodes_spec : {M : Type 1} → statement M
@@ -57,15 +57,15 @@ eval_nodes_spec =
     (λ c. omega arith)
     (λ c. omega arith)
     (λ c κs. omega arith)
-    (λ c. omega (arith, c.before.before.before.before.loop.invariant.long))
-    (λ c κs. (omega arith, omega (arith, c.before.before.before.before.loop.invariant.long), omega (arith, c.before.before.before.before.loop.invariant.shallow)))
+    (λ c. omega (arith, c.before.before.before.before.loop-i.invariant.long))
+    (λ c κs. (omega arith, omega (arith, c.before.before.before.before.loop-i.invariant.long), omega (arith, c.before.before.before.before.loop-i.invariant.shallow)))
     (λ c. omega arith)
     (λ c. omega arith)
     (λ c.
-    let e = c.before.eval-node.ensures in
-    let t = c.before.before.before.before.before.before.loop.invariant in
-    turn t c.before.before.before.before.before.loop-test.true (omega (arith, length_used c.before.before.before.before.before.before.before.before.before.args.draft.now c.before.before.before.before.before.before.before.before.before.args.b))
-    (c.before.before.before.moved-node.ensures ∙ sym (used_at _ _ _)) e.1.0 e.0
-    (c.before.eval-node.auto.1.1.0 ∙ t.long) e.1.1)
-    (λ c. omega (arith, c.before.loop.invariant.long))
-    (λ c. end c.before.loop.invariant c.loop-test.false))
+    let e = c.before.eval_node-k.ensures in
+    let t = c.before.before.before.before.before.before.loop-i.invariant in
+    turn t c.before.before.before.before.before.loop-i-test.true (omega (arith, length_used c.before.before.before.before.before.before.before.before.before.args.draft.now c.before.before.before.before.before.before.before.before.before.args.b))
+    (c.before.before.before.moved_node.ensures ∙ sym (used_at _ _ _)) e.1.0 e.0
+    (c.before.eval_node-k.auto.1.1.0 ∙ t.long) e.1.1)
+    (λ c. omega (arith, c.before.loop-i.invariant.long))
+    (λ c. end c.before.loop-i.invariant c.loop-i-test.false))

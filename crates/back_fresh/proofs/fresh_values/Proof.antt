@@ -27,10 +27,10 @@ end : {d : List ℕ} {n e : ℕ} {o : List ℕ} {count : ℕ} {v : List ℕ} {j 
 unfolding turns_on
 end {count = count} {j = j} t h = let s : count - j ≡ 0 = omega arith in rw s at t.whole
 
-abbrev invariant-loop : tie.invariant-loop
+abbrev invariant-loop : tie.invariant-loop-j
 invariant-loop d n e o count v₀ j₀ v j = Turn d n e o count v j
 
-abbrev decreases-loop : tie.decreases-loop
+abbrev decreases-loop : tie.decreases-loop-j
 decreases-loop d n e o count v₀ j₀ v j = count - j
 
 pub fresh_values_spec : {M : Type 1} → statement M
@@ -40,14 +40,14 @@ fresh_values_spec =
     invariant-loop
     decreases-loop
     (λ c κs. omega arith)
-    (λ c. begin _ _ _ _ _ _ c.start-values.ensures (search rules))
+    (λ c. begin _ _ _ _ _ _ c.start_values-v.ensures (search rules))
     (λ c. omega arith)
-    (λ c. omega (arith, c.shared-slice-known3.given c.before.before.loop.j))
+    (λ c. omega (arith, c.shared_slice_known-in-loop-j-1.given c.before.before.loop-j.j))
     (λ c. omega arith)
-    (λ c κs. (omega arith, c.before.before.before.loop.invariant.long))
+    (λ c κs. (omega arith, c.before.before.before.loop-j.invariant.long))
     (λ c. omega arith)
     (λ c. omega arith)
     (λ c.
-    let inv = c.before.before.before.before.before.loop.invariant in
-    turn inv c.before.before.before.before.loop-test.true (omega arith) c.before.take_turn_law.ensures (c.before.take_turn_law.auto.1.1.1.0 ∙ inv.long))
-    (λ c. end c.before.loop.invariant c.loop-test.false))
+    let inv = c.before.before.before.before.before.loop-j.invariant in
+    turn inv c.before.before.before.before.loop-j-test.true (omega arith) c.before.take_turn.ensures (c.before.take_turn.auto.1.1.1.0 ∙ inv.long))
+    (λ c. end c.before.loop-j.invariant c.loop-j-test.false))

@@ -5,10 +5,10 @@ use Rattle.back_fresh.specs.Evaluate.{starts_on}
 use Rattle.back_fresh.proofs.start_values.Statement.{statement}
 use Rattle.back_fresh.proofs.start_values.Tie as tie
 
-abbrev invariant-loop : tie.invariant-loop
+abbrev invariant-loop : tie.invariant-loop-i
 invariant-loop d n v₀ i₀ v i = (v ≡ starts_on d i) × (i ≤ n) × (length v ≡ 64)
 
-abbrev decreases-loop : tie.decreases-loop
+abbrev decreases-loop : tie.decreases-loop-i
 decreases-loop d n v₀ i₀ v i = n - i
 
 pub start_values_spec : {M : Type 1} → statement M
@@ -28,6 +28,6 @@ start_values_spec =
     (λ c. omega arith)
     (λ c. omega arith)
     (λ c.
-    let inv = c.before.before.loop.invariant in
+    let inv = c.before.before.loop-i.invariant in
     (rw (add-one, inv.0), omega arith, rw length-set inv.2))
-    (λ c. let k : c.before.loop.i ≡ c.before.before.args.n = omega arith in rw k at c.before.loop.invariant.0))
+    (λ c. let k : c.before.loop-i.i ≡ c.before.before.args.n = omega arith in rw k at c.before.loop-i.invariant.0))
