@@ -6,12 +6,12 @@ use Rattle.run_instruction.proofs.apply_three.Tie as tie
 
 returns_2 : tie.Need-returns
 returns_2 c =
-    let called = c.before.before.before.before.before.before in
+    let called = c in
     let at = called.call_on-value.ensures in
-    applies_three _ _ _ (omega arith) called.before.before.before.before.before.before.get_word-x.ensures
-    called.before.before.before.before.get_word-y.ensures
-    called.before.before.get_word-z.ensures
-    at.0 at.1 c.before.before.put_word.ensures
+    applies_three _ _ _ (omega arith) called.get_word-x.ensures
+    called.get_word-y.ensures
+    called.get_word-z.ensures
+    at.0 at.1 c.put_word.ensures
 
 pub apply_three_spec : {M : Type 1} → statement M
 apply_three_spec =

@@ -15,39 +15,39 @@ returns_3 c = low_slot _ _ _ _ _ (omega arith) (rw c.in-2.is)
 
 returns_4 : tie.Need-returns-in-3
 unfolding moved_word
-returns_4 c = low_slot _ _ _ _ _ (omega arith) (rw c.before.before.before.before.in-3.is c.before.before.transfer_word.ensures)
+returns_4 c = low_slot _ _ _ _ _ (omega arith) (rw c.in-3.is c.transfer_word.ensures)
 
 returns_5 : tie.Need-returns-in-4
 unfolding moved_word
-returns_5 c = low_slot _ _ _ _ _ (omega arith) (rw c.before.before.before.before.in-4.is c.before.before.transfer_word-in-4.ensures)
+returns_5 c = low_slot _ _ _ _ _ (omega arith) (rw c.in-4.is c.transfer_word-in-4.ensures)
 
 returns_6 : tie.Need-returns-in-5
 unfolding moved_word
-returns_6 c = low_slot _ _ _ _ _ (omega arith) (rw c.before.before.before.before.in-5.is c.before.before.push.ensures)
+returns_6 c = low_slot _ _ _ _ _ (omega arith) (rw c.in-5.is c.push.ensures)
 
 returns_7 : tie.Need-returns-in-6
 unfolding moved_word
-returns_7 c = low_slot _ _ _ _ _ (omega arith) (rw c.before.before.before.before.in-6.is c.before.before.push_word.ensures)
+returns_7 c = low_slot _ _ _ _ _ (omega arith) (rw c.in-6.is c.push_word.ensures)
 
 returns_8 : tie.Need-returns-in-7
 unfolding moved_word
-returns_8 c = low_slot _ _ _ _ _ (omega arith) (rw c.before.before.before.before.in-7.is c.before.before.push_word-in-7.ensures)
+returns_8 c = low_slot _ _ _ _ _ (omega arith) (rw c.in-7.is c.push_word-in-7.ensures)
 
 returns_9 : tie.Need-returns-in-9
 unfolding moved_word
-returns_9 c = low_slot _ _ _ _ _ (omega arith) (rw c.before.before.before.before.in-9.is c.before.before.pop.ensures)
+returns_9 c = low_slot _ _ _ _ _ (omega arith) (rw c.in-9.is c.pop.ensures)
 
 returns_10 : tie.Need-returns-in-10
 unfolding moved_word
-returns_10 c = low_slot _ _ _ _ _ (omega arith) (rw c.before.before.before.before.in-10.is c.before.before.pop-in-10.ensures)
+returns_10 c = low_slot _ _ _ _ _ (omega arith) (rw c.in-10.is c.pop-in-10.ensures)
 
 returns_11 : tie.Need-returns-in-11
 unfolding moved_word
-returns_11 c = low_slot _ _ _ _ _ (omega arith) (rw c.before.before.before.before.in-11.is c.before.before.transfer_word-in-11.ensures)
+returns_11 c = low_slot _ _ _ _ _ (omega arith) (rw c.in-11.is c.transfer_word-in-11.ensures)
 
 returns_12 : tie.Need-returns-in_default
 returns_12 c =
-    let m = c.match.rest in
+    let m = c.in_default.in_default-own.rest in
     low_slot _ _ _ _ _ (omega arith)
     (no_move _ _ _ _ _ m.0.0.0.0.0.0.0.0.0.1 m.0.0.0.0.0.0.0.0.1 m.0.0.0.0.0.0.0.1 m.0.0.0.0.0.0.1 m.0.0.0.0.0.1 m.0.0.0.0.1 m.0.0.0.1 m.0.0.1 m.0.1 m.1)
 
