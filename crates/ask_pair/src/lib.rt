@@ -104,11 +104,11 @@ fn pack(we: u64, wf: u64, re: u64, rf: u64, kind: u64, i: usize) -> u64
 }
 
 // The answer, by what each of the two writes and reads, where they meet and what they share.
-fn pair_by(we: u64, wf: u64, re: u64, rf: u64, meeting: u64, shared: u64, n: usize) -> u64
+fn pair_by(we: u64, wf: u64, re: u64, rf: u64, met: u64, shared: u64, n: usize) -> u64
     requires { n ≤ behaviour_limit }
-    ensures { result ≡ pair_by (bit we) (bit wf) (bit re) (bit rf) n (bit meeting) (bit shared) }
+    ensures { result ≡ pair_by (bit we) (bit wf) (bit re) (bit rf) n (bit met) (bit shared) }
 {
-    let m = least_of(meeting, n);
+    let m = least_of(met, n);
     if m != 0 {
         return pack(we, wf, re, rf, MEET, m - 1);
     }
@@ -129,9 +129,9 @@ fn pair_of(writes: &[u64], named: &[u64], strict: &[u64], n: usize, e: usize, f:
     let wf = writes[f];
     let re = named[e];
     let rf = named[f];
-    let meeting = cross(we, strict[f], wf, strict[e]);
+    let met = cross(we, strict[f], wf, strict[e]);
     let shared = cross(we, lib_bits::union_of(wf, rf), wf, re);
-    pair_by(we, wf, re, rf, meeting, shared, n)
+    pair_by(we, wf, re, rf, met, shared, n)
 }
 
 // The same on a draft of ev events and n behaviours.

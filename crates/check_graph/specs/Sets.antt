@@ -10,7 +10,7 @@ use Rattle.check_graph.specs.Matrix.{cell, closed}
 
 -- i is not in the set, and what it needs is
 unfoldable pub ready_set : ℕ → ℕ → ℕ → Bool
-ready_set rules set i = pick (bit set i) false (eqb (bit_and rules set) rules)
+ready_set needs set i = pick (bit set i) false (eqb (bit_and needs set) needs)
 
 -- the rows as a matrix of bytes, and a set as marks
 unfoldable pub bytes_of : List ℕ → List ℕ
