@@ -7,10 +7,10 @@ use Rattle.back_counts.proofs.CountLaws.{Sum, sum_start, sum_turn, sum_end, memb
 use Rattle.back_counts.proofs.count_members.Statement.{statement}
 use Rattle.back_counts.proofs.count_members.Tie as tie
 
-abbrev invariant-loop : tie.invariant-loop
+abbrev invariant-loop : tie.invariant-loop-i
 invariant-loop d e n sum₀ i₀ sum i = Sum (λ j. is_member (entry_of d e j)) n 0 i sum
 
-abbrev decreases-loop : tie.decreases-loop
+abbrev decreases-loop : tie.decreases-loop-i
 decreases-loop d e n sum₀ i₀ sum i = n - i
 
 pub count_members_spec : {M : Type 1} → statement M
@@ -23,8 +23,8 @@ count_members_spec =
     (λ c. sum_start)
     (λ c κs. omega arith)
     (λ c κs. search rules)
-    (λ c. omega (arith, member_small c.before.entry_of_law.result, c.is_member.ensures))
+    (λ c. omega (arith, member_small c.before.entry_of.result, c.is_member-sum.ensures))
     (λ c. omega arith)
     (λ c. omega arith)
-    (λ c. sum_turn c.before.before.before.loop.invariant c.before.before.loop-test.true (c.is_member.ensures ∙ ap is_member c.before.entry_of_law.ensures) (omega (arith, member_small c.before.entry_of_law.result, c.is_member.ensures)))
-    (λ c. omega (arith, sum_end c.before.loop.invariant c.loop-test.false)))
+    (λ c. sum_turn c.before.before.before.loop-i.invariant c.before.before.loop-i-test.true (c.is_member-sum.ensures ∙ ap is_member c.before.entry_of.ensures) (omega (arith, member_small c.before.entry_of.result, c.is_member-sum.ensures)))
+    (λ c. omega (arith, sum_end c.before.loop-i.invariant c.loop-i-test.false)))
