@@ -16,7 +16,7 @@ returns_2 c =
     let tested = top.before.before in
     let s = tested.before.before in
     top.put_header.ensures
-    ∙ enclosed s.args.tag s.args.n s.args.end s.args.out-1.now s.requires.0 tested.if-out-end.false
+    ∙ enclosed s.args.tag s.args.n s.args.end s.args.out.now s.requires.0 tested.if-out-end.false
 
 pub enclose_spec : {M : Type 1} → statement M
 enclose_spec =

@@ -16,4 +16,4 @@ put_header_spec =
     (λ c. rw c.before.before.put_half.ensures (simp (length_put_half, length-set)))
     (λ c.
     let a = c.before.before.before.before.before.args in
-    c.before.before.put_half.ensures ∙ header_written a.out-1.now a.n a.tag a.bytes))
+    c.before.before.put_half.ensures ∙ header_written a.out.now a.n a.tag a.bytes))

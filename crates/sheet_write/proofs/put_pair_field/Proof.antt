@@ -8,7 +8,7 @@ use Rattle.sheet_write.proofs.put_pair_field.Tie as tie
 returns : tie.Need-returns-then-out-n
 returns c =
     let a = c.before.before.args in
-    sym (left_out a.out-1.now a.n (field a.tag (a.a ∷ a.b ∷ [])) (omega (arith, c.if-out-n.true)))
+    sym (left_out a.out.now a.n (field a.tag (a.a ∷ a.b ∷ [])) (omega (arith, c.if-out-n.true)))
 
 returns_2 : tie.Need-returns
 returns_2 c =
@@ -16,11 +16,11 @@ returns_2 c =
     let tested = top.before.before in
     let a = tested.before.before.args in
     ap (λ l. set (set l (a.n + 3) a.a) (a.n + 4) a.b) top.put_header.ensures
-    ∙ pair_written a.out-1.now a.n a.tag a.a a.b
-    ∙ sym (fits a.out-1.now a.n (field a.tag (a.a ∷ a.b ∷ [])) (omega (arith, tested.if-out-n.false)))
+    ∙ pair_written a.out.now a.n a.tag a.a a.b
+    ∙ sym (fits a.out.now a.n (field a.tag (a.a ∷ a.b ∷ [])) (omega (arith, tested.if-out-n.false)))
 
 pub put_pair_field_spec : {M : Type 1} → statement M
 put_pair_field_spec =
     tie.close
     (tie.spec (search rules) returns (λ c κs. search rules) (search rules) (search rules) (search rules)
-    (λ c. simp length-set (omega arith)) (λ c. simp length-set c.before.before.put_header.auto.0) returns_2)
+    (λ c. simp length-set (omega arith)) (λ c. simp length-set c.before.before.put_header.auto.out) returns_2)

@@ -15,7 +15,7 @@ returns_2 : tie.Need-returns-then-out-n
 returns_2 c =
     let a = c.before.before.before.args in
     rw (ne_eqb a.cells 0 c.before.if-cells-eq0.false)
-    (refl, sym (left_out a.out-1.now a.n (a.cells ∷ field 4 (word a.w)) (omega (arith, c.if-out-n.true))))
+    (refl, sym (left_out a.out.now a.n (a.cells ∷ field 4 (word a.w)) (omega (arith, c.if-out-n.true))))
 
 returns_3 : tie.Need-returns
 returns_3 c =
@@ -23,13 +23,13 @@ returns_3 c =
     let tested = written.before.before in
     let a = tested.before.before.before.args in
     rw (ne_eqb a.cells 0 tested.before.if-cells-eq0.false)
-    (refl, written.put_word_field-2.ensures ∙ count_written a.out-1.now a.n a.cells (field 4 (word a.w)) (omega (arith, tested.if-out-n.false)))
+    (refl, written.put_word_field-2.ensures ∙ count_written a.out.now a.n a.cells (field 4 (word a.w)) (omega (arith, tested.if-out-n.false)))
 
 same_length_2 : tie.Need-shape_of-out
 same_length_2 c =
     let written = c.before.before in
     let a = written.before.before.before.before.before.args in
-    written.put_word_field-2.auto.0 ∙ length-set a.out-1.now a.n a.cells
+    written.put_word_field-2.auto.out ∙ length-set a.out.now a.n a.cells
 
 pub put_start_spec : {M : Type 1} → statement M
 put_start_spec =

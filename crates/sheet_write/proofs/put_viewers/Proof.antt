@@ -7,7 +7,7 @@ use Rattle.sheet_write.proofs.put_viewers.Tie as tie
 returns : tie.Need-returns-then-viewers-eq-UNSAID
 returns c =
     let a = c.before.before.args in
-    rw (eq-eqb a.viewers 256 c.if-viewers-eq-UNSAID.true) (omega arith, sym (none_fitted a.out-1.now a.n))
+    rw (eq-eqb a.viewers 256 c.if-viewers-eq-UNSAID.true) (omega arith, sym (none_fitted a.out.now a.n))
 
 returns_2 : tie.Need-returns
 returns_2 c =

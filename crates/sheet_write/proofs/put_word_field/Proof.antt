@@ -8,7 +8,7 @@ use Rattle.sheet_write.proofs.put_word_field.Tie as tie
 returns : tie.Need-returns-then-out-n
 returns c =
     let a = c.before.before.args in
-    sym (left_out a.out-1.now a.n (field a.tag (word a.w)) (omega (arith, c.if-out-n.true)))
+    sym (left_out a.out.now a.n (field a.tag (word a.w)) (omega (arith, c.if-out-n.true)))
 
 returns_2 : tie.Need-returns
 returns_2 c =
@@ -18,8 +18,8 @@ returns_2 c =
     let a = tested.before.before.args in
     value.put_high_first.ensures
     ∙ ap (λ l. sets l (a.n + 3) (word a.w)) top.put_header.ensures
-    ∙ field_written a.out-1.now a.n a.tag (word a.w)
-    ∙ sym (fits a.out-1.now a.n (field a.tag (word a.w)) (omega (arith, tested.if-out-n.false)))
+    ∙ field_written a.out.now a.n a.tag (word a.w)
+    ∙ sym (fits a.out.now a.n (field a.tag (word a.w)) (omega (arith, tested.if-out-n.false)))
 
 pub put_word_field_spec : {M : Type 1} → statement M
 put_word_field_spec =

@@ -13,7 +13,7 @@ returns c = search code depth 12
 same_length : tie.Need-shape_of-out
 same_length c =
     let top = c.before.before in
-    simp length-set (top.put_header.auto.0 ∙ top.before.before.before.before.shift.auto.0)
+    simp length-set (top.put_header.auto.out ∙ top.before.before.before.before.shift.auto.out)
 
 returns_2 : tie.Need-returns
 returns_2 c =
@@ -22,7 +22,7 @@ returns_2 c =
     let tested = moved.before.before in
     let s = tested.before.before in
     rw (top.put_header.ensures, moved.shift.ensures)
-    (head_written s.args.start s.args.end s.args.f s.args.out-1.now s.requires.0 (omega (arith, tested.if-out-end.false)))
+    (head_written s.args.start s.args.end s.args.f s.args.out.now s.requires.0 (omega (arith, tested.if-out-end.false)))
 
 pub wrap_application_spec : {M : Type 1} → statement M
 wrap_application_spec =
