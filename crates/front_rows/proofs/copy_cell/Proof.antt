@@ -9,8 +9,8 @@ unfolding cell_copied
 same_length c =
     let at_copy_start = c.before.before.before.before.before.before in
     rw length-set
-    (c.before.before.copy_viewer.auto.0 ∙ at_copy_start.Copy-start.auto.0
-    ∙ at_copy_start.before.before.before.before.copy_entries.auto.0)
+    (c.before.before.copy_viewer.auto.draft ∙ at_copy_start.copy_start.auto.draft
+    ∙ at_copy_start.before.before.before.before.copy_entries.auto.draft)
 
 returns : tie.Need-returns
 unfolding cell_copied

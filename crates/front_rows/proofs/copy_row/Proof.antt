@@ -33,7 +33,7 @@ decreases-loop draft₀ i count n₀ draft n = count - n
 loop_again : tie.Need-loop-n-preserved invariant-loop decreases-loop
 loop_again c =
     turn c.before.before.before.before.before.loop-n.invariant (omega arith)
-    c.before.before.copy_cell.ensures c.before.before.copy_cell.auto.0
+    c.before.before.copy_cell.ensures c.before.before.copy_cell.auto.draft
 
 pub copy_row_spec : {M : Type 1} → statement M
 unfolding row_copied
