@@ -35,12 +35,12 @@ emit_expr_spec =
     (λ c κs. omega arith)
     (λ c κs. (
       c.before.before.before.before.before.before.before.requires.0.0,
-      node_room _ _ c.before.moved-node.ensures
+      node_room _ _ c.before.moved_node.ensures
           (turn_room c.before.before.before.before.loop.invariant c.before.before.before.loop-test.true),
     ))
     (λ c. omega arith)
     (λ c. omega arith)
     (λ c. turn c.before.before.before.before.before.before.before.loop.invariant c.before.before.before.before.before.before.loop-test.true
-    (node_wrote _ _ c.before.before.before.before.moved-node.ensures c.before.before.emit-node.ensures))
+    (node_wrote _ _ c.before.before.before.before.moved_node.ensures c.before.before.emit_node.ensures))
     (λ c. turn_long c.before.loop.invariant)
     (λ c. end c.before.loop.invariant c.loop-test.false))

@@ -15,4 +15,4 @@ emit_member_spec =
     (λ c. search rules)
     (λ c κs. room_as (member_some _ _ _ _ c.before.before.entry_of_law.ensures _ c.before.if1.false) c.before.before.before.before.before.requires.1)
     (λ c. search rules)
-    (λ c. wrote_as (member_some _ _ _ _ c.before.before.before.before.before.entry_of_law.ensures _ c.before.before.before.before.if1.false) c.before.before.emit-instr.ensures))
+    (λ c. wrote_as (member_some _ _ _ _ c.before.before.before.before.before.entry_of_law.ensures _ c.before.before.before.before.if1.false) c.before.before.emit_instr.ensures))

@@ -14,5 +14,5 @@ emit_move_spec =
     (λ c. search rules)
     (λ c κs. room_as (move_some _ _ _ _ c.before.before.entry_of_law.ensures c.before.if1.true) c.before.before.before.before.before.requires.1)
     (λ c. search rules)
-    (λ c. wrote_as (move_some _ _ _ _ c.before.before.before.before.before.entry_of_law.ensures c.before.before.before.before.if1.true) c.before.before.emit-instr.ensures)
+    (λ c. wrote_as (move_some _ _ _ _ c.before.before.before.before.before.entry_of_law.ensures c.before.before.before.before.if1.true) c.before.before.emit_instr.ensures)
     (λ c. wrote_as (move_none _ _ _ _ c.before.entry_of_law.ensures c.if1.false) (wrote_none _ _)))

@@ -34,7 +34,7 @@ loop_again c =
     digits_turn _ _ at_loop_test.before.loop.invariant _ at_loop_test.loop-test.true
     (sym at_digit.is_digit.ensures ∙ not-false _ c.before.if1.false) c.with-digit.ensures
 
-returns_2 : tie.Need-returns-2 invariant-loop decreases-loop
+returns_2 : tie.Need-returns invariant-loop decreases-loop
 returns_2 c = digits_end _ _ c.before.loop.invariant c.loop-test.false
 
 pub digits_at_spec : {M : Type 1} → statement M
