@@ -113,6 +113,16 @@ module _ (k : ℕ) (ih : (l : ℕ) → Unique k l) where
   zero_one h a_cell a_cell x y = record { one = refl; left = refl }
   zero_one h (bracketed {ts = ts} d) (bracketed e) x y = part_one closing (calm_closing 0 []) ts (omega arith) d e
   zero_one h (chosen d e f) (chosen d' e' f') x y = chosen_one (omega arith) d e f d' e' f'
+  zero_one h (negated d) (a_value w) x y = elim w [ ]
+  zero_one h (a_value v) (negated e) x y = elim v [ ]
+  zero_one h (a_value v) a_name x y = elim v [ ]
+  zero_one h (a_value v) a_cell x y = elim v [ ]
+  zero_one h (a_value v) (bracketed e) x y = elim v [ ]
+  zero_one h (a_value v) (chosen d' e' f') x y = elim v [ ]
+  zero_one h a_name (a_value w) x y = elim w [ ]
+  zero_one h a_cell (a_value w) x y = elim w [ ]
+  zero_one h (bracketed d) (a_value w) x y = elim w [ ]
+  zero_one h (chosen d e f) (a_value w) x y = elim w [ ]
 
 climb : (k : ℕ) → Unique k 0 → (l : ℕ) → Unique k l
 climb k b zero = b

@@ -1,4 +1,3 @@
 // Definitions and proofs only: a sheet as text, its grammar apart from its reader, and the sheet that it means.
 
 #![tactic(auto)]
-
