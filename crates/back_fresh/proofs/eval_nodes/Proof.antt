@@ -57,15 +57,15 @@ eval_nodes_spec =
     (λ c. omega arith)
     (λ c. omega arith)
     (λ c κs. omega arith)
-    (λ c. omega (arith, c.before.before.before.before.loop-i.invariant.long))
-    (λ c κs. (omega arith, omega (arith, c.before.before.before.before.loop-i.invariant.long), omega (arith, c.before.before.before.before.loop-i.invariant.shallow)))
+    (λ c. omega (arith, c.loop-i.invariant.long))
+    (λ c κs. (omega arith, omega (arith, c.loop-i.invariant.long), omega (arith, c.loop-i.invariant.shallow)))
     (λ c. omega arith)
     (λ c. omega arith)
     (λ c.
-    let e = c.before.eval_node-k.ensures in
-    let t = c.before.before.before.before.before.before.loop-i.invariant in
-    turn t c.before.before.before.before.before.loop-i-test.true (omega (arith, length_used c.before.before.before.before.before.before.before.before.before.args.draft.now c.before.before.before.before.before.before.before.before.before.args.b))
-    (c.before.before.before.moved_node.ensures ∙ sym (used_at _ _ _)) e.1.0 e.0
-    (c.before.eval_node-k.auto.1.1.0 ∙ t.long) e.1.1)
-    (λ c. omega (arith, c.before.loop-i.invariant.long))
-    (λ c. end c.before.loop-i.invariant c.loop-i-test.false))
+    let e = c.eval_node-k.ensures in
+    let t = c.loop-i.invariant in
+    turn t c.loop-i-test.true (omega (arith, length_used c.args.draft.now c.args.b))
+    (c.moved_node.ensures ∙ sym (used_at _ _ _)) e.1.0 e.0
+    (c.eval_node-k.auto.stack ∙ t.long) e.1.1)
+    (λ c. omega (arith, c.loop-i.invariant.long))
+    (λ c. end c.loop-i.invariant c.loop-i-test.false))

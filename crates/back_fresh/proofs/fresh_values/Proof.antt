@@ -42,12 +42,12 @@ fresh_values_spec =
     (λ c κs. omega arith)
     (λ c. begin _ _ _ _ _ _ c.start_values-v.ensures (search rules))
     (λ c. omega arith)
-    (λ c. omega (arith, c.shared_slice_known-in-loop-j-1.given c.before.before.loop-j.j))
+    (λ c. omega (arith, c.shared_slice_known-in-loop-j-1.given c.loop-j.j))
     (λ c. omega arith)
-    (λ c κs. (omega arith, c.before.before.before.loop-j.invariant.long))
+    (λ c κs. (omega arith, c.loop-j.invariant.long))
     (λ c. omega arith)
     (λ c. omega arith)
     (λ c.
-    let inv = c.before.before.before.before.before.loop-j.invariant in
-    turn inv c.before.before.before.before.loop-j-test.true (omega arith) c.before.take_turn.ensures (c.before.take_turn.auto.1.1.1.0 ∙ inv.long))
-    (λ c. end c.before.loop-j.invariant c.loop-j-test.false))
+    let inv = c.loop-j.invariant in
+    turn inv c.loop-j-test.true (omega arith) c.take_turn.ensures (c.take_turn.auto.values ∙ inv.long))
+    (λ c. end c.loop-j.invariant c.loop-j-test.false))

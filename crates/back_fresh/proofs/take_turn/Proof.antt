@@ -15,5 +15,5 @@ take_turn_spec =
     (λ c. search rules)
     (λ c. search rules)
     (λ c. search rules)
-    (λ c. rw (c.eval_entry-u.ensures, c.before.before.entry_of-w.ensures) (search code depth 12))
+    (λ c. rw (c.eval_entry-u.ensures, c.entry_of-w.ensures) (search code depth 12))
     (λ c. search code depth 12))
