@@ -7,7 +7,7 @@ use Rattle.lib_base.proofs.Tools.{by_test, by_elim}
 use Rattle.lib_signature.specs.Signature.{level}
 use Rattle.lib_signature.specs.Numbers.{not_fn, if_fn, subtract_fn}
 use Rattle.spec_language.specs.Syntax.{Phase, immediate, later}
-use Rattle.source_language.specs.Tokens.{SheetToken, number, name, sign, reserved, marks, sign_of, is_digit, is_letter, in_word, is_blank, in_comment, closing, opening, comma, colon, equals, bracket, unbracket, rank_word, from_word, by_word, nobody_word, later_word, seen_word, on_word, param_word, event_word_law, passive_word, row_word, end_sign, word_at_place}
+use Rattle.source_language.specs.Tokens.{SheetToken, number, name, sign, reserved, marks, sign_of, is_digit, is_letter, in_word, is_blank, in_comment, closing, opening, comma, colon, equals, bracket, unbracket, rank_word, from_word, by_word, nobody_word, later_word, seen_word, on_word, param_word, event_keyword, passive_word, row_word, end_sign, word_at_place}
 use Rattle.source_language.specs.Text.{TextConstant, Phrase, constant, named, cell, negation, operation, choice, Reaction, on, Body, passive, active, row, Parameter, TextEvent, TextBehaviour, behaviour, Text, text}
 use Rattle.source_language.specs.Faults.{Kind, OrFault, fault, fine, and_then}
 use Rattle.source_language.specs.Limits.{among, largest, phrase_nesting, after_all, with_parameter, with_event, with_reaction, NamesTaken, taken, with_behaviour}
@@ -287,7 +287,7 @@ module _ (long : ℕ) where
       then-reads (All BehaviourPlaced) TextPlaced _ (λ bs ws x y. (x, y))
       (many_of behaviour_begins (behaviour_declared (after_all with_event [] es)) with_behaviour (length vs) (taken (after_all with_parameter [] ps) 0) vs)
       (many_read BehaviourPlaced behaviour_begins _ with_behaviour (behaviour-reads (after_all with_event [] es)) (length vs) (taken (after_all with_parameter [] ps) 0) vs j))
-      (many_of (λ c. eqb c event_word_law) event_declared with_event (length us) [] us) (many_read Any _ event_declared with_event event-reads (length us) [] us g))
+      (many_of (λ c. eqb c event_keyword) event_declared with_event (length us) [] us) (many_read Any _ event_declared with_event event-reads (length us) [] us g))
       (many_of (λ c. eqb c param_word) parameter_of with_parameter (length ts) [] ts) (many_read Any _ parameter_of with_parameter parameter-reads (length ts) [] ts h)
 
   -- ---- the text, and its names

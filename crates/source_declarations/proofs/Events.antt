@@ -5,7 +5,7 @@ use Rattle.lib_base.proofs.Prelude.{none, List, [], ◌∷◌, ◌++◌, map, ap
 use Rattle.lib_base.proofs.Prelude.{length-set, set, length-append, eqb, leb, ne_eqb, le-ltb, lt-ltb, leb-false, arith}
 use Rattle.lib_base.proofs.Tools.{split}
 use Rattle.spec_language.specs.Grammar.{encode_event, encode_events}
-use Rattle.source_language.specs.Tokens.{SheetToken, sign, rank_word, event_word_law}
+use Rattle.source_language.specs.Tokens.{SheetToken, sign, rank_word, event_keyword}
 use Rattle.source_language.specs.Text.{TextEvent, event}
 use Rattle.source_language.specs.Limits.{among, largest, with_event}
 use Rattle.source_language.specs.Meaning.{signal_of}
@@ -106,7 +106,7 @@ ranked_within long at d r s p v after i n next to bits h e g f k l o =
 
 module _ (text names : List ℕ) (p at count : ℕ) where
   abbrev one_event : Phrased TextEvent
-  one_event = event_declared (names_held text names count) (sign p event_word_law ∷ tokens_from text at)
+  one_event = event_declared (names_held text names count) (sign p event_keyword ∷ tokens_from text at)
 
   pub event_crowded : (w : ℕ) → 32 ≤ count → w ≡ 34 * 4294967296 + p → TextEventRead text (E.Fault w) one_event
   unfolding event_declared
@@ -146,7 +146,7 @@ event_later long at d p v next r h e g = let k = rw e at h in event_on long at n
 pub record EventTurn (text : List ℕ) (at n : ℕ) (o names out : List ℕ) (here count end : ℕ) : Type 0 where
   pub found : List TextEvent
   pub whole : events_declared (tokens_from text at)
-      ≡ prepended found (many_of (λ c. eqb c event_word_law) event_declared with_event (length (tokens_from text here)) (names_held text names count) (tokens_from text here))
+      ≡ prepended found (many_of (λ c. eqb c event_keyword) event_declared with_event (length (tokens_from text here)) (names_held text names count) (tokens_from text here))
   pub counted : count ≡ length found
   pub few : count ≤ 32
   pub named : map (name_at text) (take count names) ≡ map name_of_event found
@@ -175,13 +175,13 @@ events_start text at n o names h k l = record {
   low = l;
 }
 
-pub events_stop : {text : List ℕ} {at n : ℕ} {o names out : List ℕ} {here count end : ℕ} (d : Due) (w : ℕ) → EventTurn text at n o names out here count end → SignTold text here event_word_law d
+pub events_stop : {text : List ℕ} {at n : ℕ} {o names out : List ℕ} {here count end : ℕ} (d : Due) (w : ℕ) → EventTurn text at n o names out here count end → SignTold text here event_keyword d
     → d ≡ D.Fault w → EventsRead text names n o out (Done here count end) (events_declared (tokens_from text at))
 events_stop {text} {at} {n} {o} {names} {out} {here} {count} {end} d w t h e =
     let g = rw e at h in
     let z : events_declared (tokens_from text at) ≡ got t.found (tokens_from text here) =
-    t.whole ∙ many_over (λ c. eqb c event_word_law) event_declared with_event refl leaves_event t.found (length (tokens_from text here)) (names_held text names count) (tokens_from text here)
-    (ne_eqb (sign_at (tokens_from text here)) event_word_law g.0) in
+    t.whole ∙ many_over (λ c. eqb c event_keyword) event_declared with_event refl leaves_event t.found (length (tokens_from text here)) (names_held text names count) (tokens_from text here)
+    (ne_eqb (sign_at (tokens_from text here)) event_keyword g.0) in
     rw z (record { onward = refl; counted = t.counted; few = t.few; named = t.named; size = t.size; written = t.written })
 
 -- what was read of one
@@ -207,25 +207,25 @@ room_left ns ts us x e =
     (λ b. omega (arith, leb-false 32 (length ns) b))
 
 pub events_fault_law : {text : List ℕ} {at n : ℕ} {o names out : List ℕ} {here count end : ℕ} (d : Due) (r : Event) (p v after w : ℕ) → EventTurn text at n o names out here count end
-    → SignTold text here event_word_law d → d ≡ D.Found p v after → TextEventRead text r (event_declared (names_held text names count) (sign p event_word_law ∷ tokens_from text after)) → r ≡ E.Fault w
+    → SignTold text here event_keyword d → d ≡ D.Found p v after → TextEventRead text r (event_declared (names_held text names count) (sign p event_keyword ∷ tokens_from text after)) → r ≡ E.Fault w
     → EventsRead text names n o out (Fault w) (events_declared (tokens_from text at))
 events_fault_law {text} {at} {n} {o} {names} {out} {here} {count} {end} d r p v after w t h e g f =
     let x = rw e at h in
-    let y = fault_in_law text w (event_declared (names_held text names count) (sign p event_word_law ∷ tokens_from text after)) (rw f at g) in
+    let y = fault_in_law text w (event_declared (names_held text names count) (sign p event_keyword ∷ tokens_from text after)) (rw f at g) in
     let z : events_declared (tokens_from text at) ≡ bad y.kind y.place =
-    t.whole ∙ many_faults (λ c. eqb c event_word_law) event_declared with_event refl leaves_event t.found (names_held text names count) (tokens_from text here) y.kind y.place
+    t.whole ∙ many_faults (λ c. eqb c event_keyword) event_declared with_event refl leaves_event t.found (names_held text names count) (tokens_from text here) y.kind y.place
     (rw x) (rw x y.turned) in
     rw z y.word
 
 pub events_room_law : {text : List ℕ} {at n : ℕ} {o names out : List ℕ} {here count end : ℕ} (d : Due) (r : Event) (p v after q rank bits to : ℕ)
     → EventTurn text at n o names out here count end → d ≡ D.Found p v after
-    → TextEventRead text r (event_declared (names_held text names count) (sign p event_word_law ∷ tokens_from text after)) → r ≡ E.Named q rank bits to → count < 32
+    → TextEventRead text r (event_declared (names_held text names count) (sign p event_keyword ∷ tokens_from text after)) → r ≡ E.Named q rank bits to → count < 32
 events_room_law {text} {at} {n} {o} {names} {out} {here} {count} {end} d r p v after q rank bits to t e g f =
-    let y = got_in text q rank bits to (event_declared (names_held text names count) (sign p event_word_law ∷ tokens_from text after)) (rw f at g) in
+    let y = got_in text q rank bits to (event_declared (names_held text names count) (sign p event_keyword ∷ tokens_from text after)) (rw f at g) in
     omega (
       arith,
       held_count text names count,
-      room_left (names_held text names count) (sign p event_word_law ∷ tokens_from text after) (tokens_from text to) (event (name_at text q) rank y.players) y.read,
+      room_left (names_held text names count) (sign p event_keyword ∷ tokens_from text after) (tokens_from text to) (event (name_at text q) rank y.players) y.read,
     )
 
 -- the bytes of one more event
@@ -257,13 +257,13 @@ sender_small none = omega arith
 sender_small (some ns) = omega arith
 
 pub events_turn : {text : List ℕ} {at n : ℕ} {o names out : List ℕ} {here count end : ℕ} (d : Due) (r : Event) (p v after q rank bits to : ℕ) (out' : List ℕ) (end' : ℕ)
-    → EventTurn text at n o names out here count end → SignTold text here event_word_law d → d ≡ D.Found p v after
-    → TextEventRead text r (event_declared (names_held text names count) (sign p event_word_law ∷ tokens_from text after)) → r ≡ E.Named q rank bits to → (here < to) × (to ≤ length text) × (rank ≤ 15) × (bits ≤ 256)
+    → EventTurn text at n o names out here count end → SignTold text here event_keyword d → d ≡ D.Found p v after
+    → TextEventRead text r (event_declared (names_held text names count) (sign p event_keyword ∷ tokens_from text after)) → r ≡ E.Named q rank bits to → (here < to) × (to ≤ length text) × (rank ≤ 15) × (bits ≤ 256)
     → out' ≡ fitted out end (event_bytes rank bits) → end' ≡ end + length (event_bytes rank bits)
     → EventTurn text at n o (set names count q) out' to (count + 1) end'
 events_turn {text} {at} {n} {o} {names} {out} {here} {count} {end} d r p v after q rank bits to out' end' t h e g f b j k =
     let x = rw e at h in
-    let y = got_in text q rank bits to (event_declared (names_held text names count) (sign p event_word_law ∷ tokens_from text after)) (rw f at g) in
+    let y = got_in text q rank bits to (event_declared (names_held text names count) (sign p event_keyword ∷ tokens_from text after)) (rw f at g) in
     let l : count < 32 = events_room_law d r p v after q rank bits to t e g f in
     let c : count < length names = omega (arith, t.kept) in
     let m : length (event_bytes rank bits) ≡ 4 + sender_size y.players =
@@ -272,7 +272,7 @@ events_turn {text} {at} {n} {o} {names} {out} {here} {count} {end} d r p v after
       found = t.found ++ (event (name_at text q) rank y.players ∷ []);
       whole =
           t.whole
-          ∙ many_turn (λ c. eqb c event_word_law) event_declared with_event refl leaves_event t.found (names_held text names count) (tokens_from text here)
+          ∙ many_turn (λ c. eqb c event_keyword) event_declared with_event refl leaves_event t.found (names_held text names count) (tokens_from text here)
           (event (name_at text q) rank y.players) (tokens_from text to) (rw x) (rw x y.read)
           ∙ rw (held_more text names count q c);
       counted = rw length-append (omega (arith, t.counted));

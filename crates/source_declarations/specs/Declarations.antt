@@ -5,7 +5,7 @@ use Rattle.std.proofs.Math.Option.{Option}
 use Rattle.lib_base.specs.Basics.{pick}
 use Rattle.spec_language.specs.Limits.{event_limit}
 use Rattle.spec_language.specs.Grammar.{encode_events}
-use Rattle.source_language.specs.Tokens.{SheetToken, rank_word, param_word, event_word_law}
+use Rattle.source_language.specs.Tokens.{SheetToken, rank_word, param_word, event_keyword}
 use Rattle.source_language.specs.Text.{Parameter, parameter, TextEvent, event}
 use Rattle.source_language.specs.Faults.{off_scale}
 use Rattle.source_language.specs.Limits.{largest, with_parameter, with_event}
@@ -68,7 +68,7 @@ abbrev pub parameters_declared : List SheetToken → Phrased (List Parameter)
 parameters_declared ts = many_of (λ c. eqb c param_word) parameter_of with_parameter (length ts) [] ts
 
 abbrev pub events_declared : List SheetToken → Phrased (List TextEvent)
-events_declared ts = many_of (λ c. eqb c event_word_law) event_declared with_event (length ts) [] ts
+events_declared ts = many_of (λ c. eqb c event_keyword) event_declared with_event (length ts) [] ts
 
 abbrev pub name_of_parameter : Parameter → List ℕ
 name_of_parameter (parameter s d) = s

@@ -7,7 +7,7 @@
 ghost use Rattle.std.specs.Prelude.{◌≡◌, [], ◌∷◌, ◌||◌, ℕ, ◌≤◌, ◌+◌, ◌*◌, ◌/◌, ◌%◌, length, set, eqb};
 ghost use Rattle.std.proofs.lemmas.List.Edits.{sets};
 ghost use Rattle.lib_bits.specs.Bits.{bit};
-ghost use Rattle.source_language.specs.Tokens.{sign, param-word, event-word};
+ghost use Rattle.source_language.specs.Tokens.{sign, param_word, event_keyword};
 ghost use Rattle.source_language.specs.Reader.{more_players, players_of, from_of, seen_of, default_of, parameter_of, event_declared};
 ghost use Rattle.source_coding.specs.Places.{tokens_from, name_at, names_held};
 ghost use Rattle.source_declarations.specs.Players.{players_said, RightsRead, RightsWithin};
@@ -173,7 +173,7 @@ fn parameter_at(text: &[u8], p: usize, at: usize, names: &[usize], count: usize)
     requires count_in_bounds { count ≤ length names.now }
     ensures parameter_read { ParameterRead text.now result
         (parameter_of (names_held text.now names.now count)
-        (sign p param-word ∷ tokens_from text.now at)) }
+        (sign p param_word ∷ tokens_from text.now at)) }
     ensures parameter_within { ParameterWithin (length text.now) at result }
 {
     if sheet::PARAMETERS <= count {
@@ -248,7 +248,7 @@ fn event_from(text: &[u8], p: usize, at: usize, events: &[usize], count: usize) 
     requires count_in_bounds { count ≤ length events.now }
     ensures text_event_read { TextEventRead text.now result
         (event_declared (names_held text.now events.now count)
-        (sign p event-word ∷ tokens_from text.now at)) }
+        (sign p event_keyword ∷ tokens_from text.now at)) }
     ensures event_within { EventWithin (length text.now) at result }
 {
     if sheet::EVENTS <= count {

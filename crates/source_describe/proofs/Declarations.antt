@@ -9,7 +9,7 @@ use Rattle.spec_language.specs.Sheet.{Clause, clause, Item, formula, state, row,
 use Rattle.spec_language.specs.Grammar.{field, word, encode_expr, encode_phase, encode_handler, encode_handlers, tag_of, encode_item, encode_viewer, encode_behaviour, encode_behaviours, encode_sender, encode_event, encode_events, ClausesFit, ItemFits, ByteFits, SignalFits, EntryFits}
 use Rattle.spec_language.specs.Reading.{phase_of}
 use Rattle.spec_grammar.proofs.Programs.{behaviour_bytes}
-use Rattle.source_language.specs.Tokens.{SheetToken, number, name, rank_word, from_word, by_word, seen_word, on_word, equals, bracket, unbracket, event_word_law, passive_word, active_word, row_word}
+use Rattle.source_language.specs.Tokens.{SheetToken, number, name, rank_word, from_word, by_word, seen_word, on_word, equals, bracket, unbracket, event_keyword, passive_word, active_word, row_word}
 use Rattle.source_language.specs.Text.{behaviour}
 use Rattle.source_rendering.specs.Describe.{event_name, behaviour_name, described_constant, phrase_of, described_reactions, described_body, players_in, described_behaviours, described_events, mark, value_tokens, phrase_tokens, from_tokens, seen_tokens, phase_tokens, event_tokens, reaction_tokens, behaviour_token, behaviour_tokens}
 use Rattle.source_rendering.proofs.Described.{some_cells}
@@ -80,7 +80,7 @@ signals_walk zero i (r ∷ rs) rest ts h n f = absurd (omega arith)
 signals_walk (suc k) i (r ∷ rs) rest ts h n f =
     let after = encode_events rs ++ rest in
     rw (append_assoc (encode_event r) (encode_events rs) rest, after_event r after, add-one i)
-    (ap (λ (us : Tokens). mark event_word_law (name 0 (event_name i) ∷ mark rank_word (number 0 r.priority ∷ us)))
+    (ap (λ (us : Tokens). mark event_keyword (name 0 (event_name i) ∷ mark rank_word (number 0 r.priority ∷ us)))
     (append_assoc (sender_tokens (encode_event r ++ after)) (signals_tokens k (suc i) after) ts
     ∙ (rw (signals_walk k (suc i) rs rest ts (omega arith) n f.1) (sender_walks r.priority r.sender after (event_tokens (described_events (suc i) rs) ts) f.0.1))))
 

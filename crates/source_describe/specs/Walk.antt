@@ -5,7 +5,7 @@ use Rattle.std.specs.Prelude.{ℕ, zero, suc, ◌+◌, ◌/◌, ◌%◌, List, [
 use Rattle.lib_base.specs.Basics.{pick}
 use Rattle.spec_language.specs.Reading.{phase_of}
 use Rattle.source_language.specs.Tokens.{SheetToken, number, name, equals, bracket, unbracket, rank_word, from_word}
-use Rattle.source_language.specs.Tokens.{by_word, nobody_word, seen_word, on_word, event_word_law, passive_word}
+use Rattle.source_language.specs.Tokens.{by_word, nobody_word, seen_word, on_word, event_keyword, passive_word}
 use Rattle.source_language.specs.Tokens.{active_word, row_word, end_sign}
 use Rattle.source_rendering.specs.Describe.{event_name, behaviour_name, described_constant, parameters_from, mark, value_tokens, phase_tokens, parameter_tokens}
 use Rattle.sheet_walk.specs.Fields.{after_field, word_in_front, past_fields, cells_in_front}
@@ -73,7 +73,7 @@ sender_tokens b = pick (eqb (get_or b 2 0) 2) (mark from_word (right_tokens (get
 
 -- event i, whose field is in front, and all that follow it
 abbrev pub signal_tokens : ℕ → List ℕ → List SheetToken
-signal_tokens i b = mark event_word_law (name 0 (event_name i) ∷ mark rank_word (number 0 (get_or b 3 0) ∷ sender_tokens b))
+signal_tokens i b = mark event_keyword (name 0 (event_name i) ∷ mark rank_word (number 0 (get_or b 3 0) ∷ sender_tokens b))
 
 unfoldable pub signals_tokens : ℕ → ℕ → List ℕ → List SheetToken
 signals_tokens zero i b = []

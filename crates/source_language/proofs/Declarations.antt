@@ -5,7 +5,7 @@ use Rattle.lib_base.proofs.Prelude.{◌||◌, false≢true, ◌&&◌, Option, so
 use Rattle.lib_base.proofs.Prelude.{eqb-true, le-ltb, eq-eqb, ltb-false, eqb-false, lt-leb, leb-false, leb-true, arith}
 use Rattle.lib_base.proofs.Tools.{by_test, none_of}
 use Rattle.spec_language.specs.Syntax.{immediate, later}
-use Rattle.source_language.specs.Tokens.{SheetToken, number, name, sign, colon, equals, bracket, unbracket, rank_word, later_word, on_word, param_word, event_word_law, passive_word, active_word, row_word}
+use Rattle.source_language.specs.Tokens.{SheetToken, number, name, sign, colon, equals, bracket, unbracket, rank_word, later_word, on_word, param_word, event_keyword, passive_word, active_word, row_word}
 use Rattle.source_language.specs.Text.{TextConstant, Reaction, on, Body, active, row, Parameter, parameter, TextEvent, event, TextBehaviour, behaviour}
 use Rattle.source_language.specs.Grammar.{Many, no_more, one_more, IsParameter, p_bare, p_given, IsEvent, e_event, IsReaction, r_now, r_later, IsBehaviour, b_passive, b_active, b_row}
 use Rattle.source_language.specs.Limits.{among, largest, FitInTurn, ParameterFits, with_parameter, EventFits, with_event, ReactionFits, with_reaction, ReactionsFit, NamesTaken, taken, TextBehaviourFits, with_behaviour}
@@ -110,7 +110,7 @@ parameters_are = record { begins = starts; first = first; less = less; reads = p
 
 -- ---- events
 
-pub event_sound : (ns : List (List ℕ)) (ts : List SheetToken) → eqb (sign_at ts) event_word_law ≡ true → Of (λ x us. IsEvent ts x us × EventFits ns x) (event_declared ns ts)
+pub event_sound : (ns : List (List ℕ)) (ts : List SheetToken) → eqb (sign_at ts) event_keyword ≡ true → Of (λ x us. IsEvent ts x us × EventFits ns x) (event_declared ns ts)
 unfolding event_declared From
 event_sound ns ts e =
     by_test (Of F) (leb 32 (length ns)) (λ l. tt)
@@ -120,25 +120,25 @@ event_sound ns ts e =
     number_of F largest _ vs (λ t n ws z b.
     by_test (Of F) (ltb 15 n) (λ d. tt)
     (λ d. then_of F (From ws) _ (λ m xs h.
-    let w : ts ≡ sign (place_at ts) event_word_law ∷ name q s ∷ sign r rank_word ∷ number t n ∷ ws = signed_is event_word_law (omega arith) ts e ∙ rw (x, y, z) in
+    let w : ts ≡ sign (place_at ts) event_keyword ∷ name q s ∷ sign r rank_word ∷ number t n ∷ ws = signed_is event_keyword (omega arith) ts e ∙ rw (x, y, z) in
     (subst (λ (u : List SheetToken). IsEvent u (event s n m) xs) (sym w) (e_event h.0), (leb-false 32 (length ns) l, a, ltb-false 15 n d, h.1)))
     (from_of ws) (from_sound ws)))))))
   where
     F : TextEvent → List SheetToken → Type 0
     F x us = IsEvent ts x us × EventFits ns x
 
-event-reads : (ns : List (List ℕ)) {ts us : List SheetToken} {x : TextEvent} → IsEvent ts x us → EventFits ns x → event_word_law ≤ sign_at us → event_declared ns ts ≡ got x us
+event-reads : (ns : List (List ℕ)) {ts us : List SheetToken} {x : TextEvent} → IsEvent ts x us → EventFits ns x → event_keyword ≤ sign_at us → event_declared ns ts ≡ got x us
 unfolding event_declared past_sign
 event-reads ns (e_event {n = n} d) f h =
     rw (lt-leb 32 (length ns) f.0, f.1, le-ltb largest n (omega (arith, f.2)), le-ltb 15 n f.2, from-reads d f.3 (omega arith))
 
-pub events_are : Member (λ c. eqb c event_word_law) event_declared with_event IsEvent EventFits event_word_law
+pub events_are : Member (λ c. eqb c event_keyword) event_declared with_event IsEvent EventFits event_keyword
 events_are = record { begins = starts; first = first; less = less; reads = event-reads }
   where
-    starts : {ts us : List SheetToken} {x : TextEvent} → IsEvent ts x us → eqb (sign_at ts) event_word_law ≡ true
+    starts : {ts us : List SheetToken} {x : TextEvent} → IsEvent ts x us → eqb (sign_at ts) event_keyword ≡ true
     starts (e_event d) = refl
 
-    first : {ts us : List SheetToken} {x : TextEvent} → IsEvent ts x us → event_word_law ≤ sign_at ts
+    first : {ts us : List SheetToken} {x : TextEvent} → IsEvent ts x us → event_keyword ≤ sign_at ts
     first (e_event d) = omega arith
 
     less : {ts us : List SheetToken} {x : TextEvent} → IsEvent ts x us → length us < length ts

@@ -2,7 +2,7 @@
 -- scanner (`Scans`) and the productions (`Declarations`).
 use Rattle.lib_base.proofs.Prelude.{ℕ, ◌≡◌, refl, subst, List, [], ◌∷◌, length, eqb, ne_eqb, eqb-true, arith}
 use Rattle.lib_base.proofs.Tools.{by_test}
-use Rattle.source_language.specs.Tokens.{SheetToken, number, name, sign, param_word, event_word_law, passive_word, end_sign}
+use Rattle.source_language.specs.Tokens.{SheetToken, number, name, sign, param_word, event_keyword, passive_word, end_sign}
 use Rattle.source_language.specs.Text.{Text, text}
 use Rattle.source_language.specs.Faults.{OrFault, fault, fine}
 use Rattle.source_language.specs.Grammar.{Many, IsParameter, IsEvent, IsBehaviour, IsText, a_text, TextSays, says}
@@ -56,8 +56,8 @@ declarations_sound ts =
     (many_of behaviour_begins (behaviour_declared (after_all with_event [] es)) with_behaviour (length vs) (taken (after_all with_parameter [] ps) 0) vs)
     (many_sound behaviour_begins (behaviour_declared (after_all with_event [] es)) with_behaviour IsBehaviour (TextBehaviourFits (after_all with_event [] es))
     (behaviour_sound (after_all with_event [] es)) (length vs) (taken (after_all with_parameter [] ps) 0) vs))
-    (many_of (λ c. eqb c event_word_law) event_declared with_event (length us) [] us)
-    (many_sound (λ c. eqb c event_word_law) event_declared with_event IsEvent EventFits event_sound (length us) [] us))
+    (many_of (λ c. eqb c event_keyword) event_declared with_event (length us) [] us)
+    (many_sound (λ c. eqb c event_keyword) event_declared with_event IsEvent EventFits event_sound (length us) [] us))
     (many_of (λ c. eqb c param_word) parameter_of with_parameter (length ts) [] ts)
     (many_sound (λ c. eqb c param_word) parameter_of with_parameter IsParameter ParameterFits parameter_sound (length ts) [] ts)
 
@@ -72,9 +72,9 @@ tokens_read {ts} (a_text {p} {us = us} {vs} {ps} {es} {bs} d e g) f =
     let ns = after_all with_parameter [] ps in
     let ms = after_all with_event [] es in
     let z = many_first behaviour_begins (behaviour_declared ms) with_behaviour IsBehaviour (TextBehaviourFits ms) passive_word (behaviours_are ms) g (omega arith) in
-    let y = many_first (λ c. eqb c event_word_law) event_declared with_event IsEvent EventFits event_word_law events_are e (omega arith) in
+    let y = many_first (λ c. eqb c event_keyword) event_declared with_event IsEvent EventFits event_keyword events_are e (omega arith) in
     let c = many-reads behaviour_begins (behaviour_declared ms) with_behaviour IsBehaviour (TextBehaviourFits ms) passive_word (behaviours_are ms) g (taken ns 0) (length vs) (omega arith) f.2 (omega arith) refl in
-    let b = many-reads (λ c. eqb c event_word_law) event_declared with_event IsEvent EventFits event_word_law events_are e [] (length us) (omega arith) f.1 (omega arith) (ne_eqb (sign_at vs) event_word_law (omega arith)) in
+    let b = many-reads (λ c. eqb c event_keyword) event_declared with_event IsEvent EventFits event_keyword events_are e [] (length us) (omega arith) f.1 (omega arith) (ne_eqb (sign_at vs) event_keyword (omega arith)) in
     let a = many-reads (λ c. eqb c param_word) parameter_of with_parameter IsParameter ParameterFits param_word parameters_are d [] (length ts) (omega arith) f.0 (omega arith) (ne_eqb (sign_at us) param_word (omega arith)) in
     rw (a, b, c)
 

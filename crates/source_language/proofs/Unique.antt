@@ -7,7 +7,7 @@ use Rattle.lib_signature.specs.Signature.{level}
 use Rattle.spec_language.specs.Syntax.{immediate, later}
 use Rattle.text_formula.specs.Grammar.{Operator}
 use Rattle.text_formula.proofs.Parses.{level_of_law}
-use Rattle.source_language.specs.Tokens.{SheetToken, sign, closing, comma, unbracket, from_word, seen_word, on_word, param_word, event_word_law, passive_word, end_sign}
+use Rattle.source_language.specs.Tokens.{SheetToken, sign, closing, comma, unbracket, from_word, seen_word, on_word, param_word, event_keyword, passive_word, end_sign}
 use Rattle.source_language.specs.Text.{TextConstant, Phrase, constant, negation, operation, choice, Reaction, on, Body, active, row, Parameter, parameter, TextEvent, event, TextBehaviour, behaviour, Text}
 use Rattle.source_language.specs.Grammar.{IsValue, v_plus, v_minus, PhraseDerives, tighter, two_sided, negated, a_value, a_name, a_cell, bracketed, chosen, IsPlayers, nobody, last_player, and_player, IsFrom, from_unsaid, from_said, IsSeen, seen_unsaid, seen_said, Many, no_more, one_more, IsParameter, p_bare, p_given, IsEvent, e_event, IsReaction, r_now, r_later, IsBehaviour, b_passive, b_active, b_row, IsText, a_text, TextSays, says}
 use Rattle.source_language.specs.Reader.{sign_at, tokens_after}
@@ -169,7 +169,7 @@ parameter_one ts us vs x y (p_given v) p_bare c d = absurd (omega arith)
 parameter_one ts us vs x y (p_given {s = s} v) (p_given w) c d =
     let r = value_one v w in record { one = ap (λ (k : TextConstant). parameter s (some k)) r.one; left = r.left }
 
-event_one : (ts us vs : List SheetToken) (x y : TextEvent) → IsEvent ts x us → IsEvent ts y vs → event_word_law ≤ sign_at us → event_word_law ≤ sign_at vs → Same x us y vs
+event_one : (ts us vs : List SheetToken) (x y : TextEvent) → IsEvent ts x us → IsEvent ts y vs → event_keyword ≤ sign_at us → event_keyword ≤ sign_at vs → Same x us y vs
 event_one ts us vs x y (e_event {n = n} {s = s} a) (e_event b) c d =
     let r = from_one a b (omega arith) (omega arith) in record { one = ap (event s n) r.one; left = r.left }
 
@@ -239,11 +239,11 @@ parameter_first : (ts us : List SheetToken) (x : Parameter) → IsParameter ts x
 parameter_first ts us x p_bare = omega arith
 parameter_first ts us x (p_given v) = omega arith
 
-no_parameter : (ts us : List SheetToken) (x : Parameter) → IsParameter ts x us → From event_word_law ts → ⊥
+no_parameter : (ts us : List SheetToken) (x : Parameter) → IsParameter ts x us → From event_keyword ts → ⊥
 no_parameter ts us x p_bare h = omega arith
 no_parameter ts us x (p_given v) h = omega arith
 
-event_first : (ts us : List SheetToken) (x : TextEvent) → IsEvent ts x us → event_word_law ≤ sign_at ts
+event_first : (ts us : List SheetToken) (x : TextEvent) → IsEvent ts x us → event_keyword ≤ sign_at ts
 event_first ts us x (e_event a) = omega arith
 
 no_event_law : (ts us : List SheetToken) (x : TextEvent) → IsEvent ts x us → From passive_word ts → ⊥
@@ -263,10 +263,10 @@ text_one : {ts : List SheetToken} {x y : Text} → IsText ts x → IsText ts y �
 text_one (a_text {us = us} {vs} d e g) (a_text {p = p} {us = us'} {vs = vs'} {es = es'} {bs = bs'} d' e' g') =
     let z = several_first IsBehaviour passive_word behaviour_first behaviour_one g (omega arith) in
     let z' = several_first IsBehaviour passive_word behaviour_first behaviour_one g' (omega arith) in
-    let w = several_first IsEvent event_word_law event_first event_one e (omega arith) in
-    let w' = several_first IsEvent event_word_law event_first event_one e' (omega arith) in
-    let a = several_one IsParameter param_word parameter_first parameter_one (From event_word_law) no_parameter d d' (omega arith) (omega arith) w w' in
-    let b = several_one IsEvent event_word_law event_first event_one (From passive_word) no_event_law e (subst (λ (l : List SheetToken). Many IsEvent l es' vs') (sym a.left) e') (omega arith) (omega arith) z z' in
+    let w = several_first IsEvent event_keyword event_first event_one e (omega arith) in
+    let w' = several_first IsEvent event_keyword event_first event_one e' (omega arith) in
+    let a = several_one IsParameter param_word parameter_first parameter_one (From event_keyword) no_parameter d d' (omega arith) (omega arith) w w' in
+    let b = several_one IsEvent event_keyword event_first event_one (From passive_word) no_event_law e (subst (λ (l : List SheetToken). Many IsEvent l es' vs') (sym a.left) e') (omega arith) (omega arith) z z' in
     let c = several_one IsBehaviour passive_word behaviour_first behaviour_one (From end_sign) no_behaviour_law g
     (subst (λ (l : List SheetToken). Many IsBehaviour l bs' (sign p end_sign ∷ [])) (sym b.left) g') (omega arith) (omega arith) (omega arith) (omega arith) in
     rw (a.one, b.one, c.one)

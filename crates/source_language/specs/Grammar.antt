@@ -6,7 +6,7 @@ use Rattle.spec_language.specs.Syntax.{immediate, later}
 use Rattle.text_formula.specs.Grammar.{Operator}
 use Rattle.source_language.specs.Tokens.{SheetToken, number, name, sign, opening, closing, comma, colon, equals}
 use Rattle.source_language.specs.Tokens.{bracket, unbracket, rank_word, from_word, by_word, nobody_word}
-use Rattle.source_language.specs.Tokens.{later_word, seen_word, on_word, param_word, event_word_law, passive_word}
+use Rattle.source_language.specs.Tokens.{later_word, seen_word, on_word, param_word, event_keyword, passive_word}
 use Rattle.source_language.specs.Tokens.{active_word, row_word, end_sign, TokensOfText}
 use Rattle.source_language.specs.Text.{TextConstant, plus, minus, Phrase, constant, named, cell, negation}
 use Rattle.source_language.specs.Text.{operation, choice, Reaction, on, passive, active, row, Parameter}
@@ -63,7 +63,7 @@ pub data IsParameter : List SheetToken → Parameter → List SheetToken → Typ
 -- event = "event" NAME "rank" NUMBER [ "from" players ]
 pub data IsEvent : List SheetToken → TextEvent → List SheetToken → Type 0 where
   e_event : {p q r t n : ℕ} {s : List ℕ} {ts us : List SheetToken} {m : Option (List ℕ)} → IsFrom ts m us
-      → IsEvent (sign p event_word_law ∷ name q s ∷ sign r rank_word ∷ number t n ∷ ts) (event s n m) us
+      → IsEvent (sign p event_keyword ∷ name q s ∷ sign r rank_word ∷ number t n ∷ ts) (event s n m) us
 
 -- handler = "on" NAME [ "later" ] ":" formula
 pub data IsReaction : List SheetToken → Reaction → List SheetToken → Type 0 where

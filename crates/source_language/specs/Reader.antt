@@ -6,7 +6,7 @@ use Rattle.lib_base.specs.Basics.{pick}
 use Rattle.lib_signature.specs.Signature.{level}
 use Rattle.lib_signature.specs.Numbers.{not_fn, if_fn, subtract_fn}
 use Rattle.spec_language.specs.Syntax.{Phase, immediate, later}
-use Rattle.source_language.specs.Tokens.{SheetToken, number, name, sign, opening, closing, comma, colon, equals, bracket, unbracket, rank_word, from_word, by_word, nobody_word, later_word, seen_word, on_word, param_word, event_word_law, passive_word, row_word, end_sign}
+use Rattle.source_language.specs.Tokens.{SheetToken, number, name, sign, opening, closing, comma, colon, equals, bracket, unbracket, rank_word, from_word, by_word, nobody_word, later_word, seen_word, on_word, param_word, event_keyword, passive_word, row_word, end_sign}
 use Rattle.source_language.specs.Text.{TextConstant, plus, minus, Phrase, constant, named, cell, negation, operation, choice, Reaction, on, Body, passive, active, row, Parameter, parameter, TextEvent, event, TextBehaviour, behaviour, Text, text}
 use Rattle.source_language.specs.Faults.{Kind, outside, too_large, off_scale, tooMany, declaredTwice, secondHandler, too_deep, unknown_name, OrFault, fault, fine}
 use Rattle.source_language.specs.Limits.{among, largest, phrase_nesting, after_all, with_parameter, with_event, with_reaction, NamesTaken, taken, with_behaviour}
@@ -258,7 +258,7 @@ ending (got x ts) = text_ends x ts
 unfoldable pub declarations_of : List SheetToken → Phrased Text
 declarations_of ts =
     then_phrase (many_of (λ c. eqb c param_word) parameter_of with_parameter (length ts) [] ts) (λ ps us.
-    then_phrase (many_of (λ c. eqb c event_word_law) event_declared with_event (length us) [] us) (λ es vs.
+    then_phrase (many_of (λ c. eqb c event_keyword) event_declared with_event (length us) [] us) (λ es vs.
     then_phrase (many_of behaviour_begins (behaviour_declared (after_all with_event [] es)) with_behaviour (length vs) (taken (after_all with_parameter [] ps) 0) vs) (λ bs ws.
     got (text ps es bs) ws)))
 

@@ -60,8 +60,8 @@ on_word = 77
 abbrev pub param_word : ℕ
 param_word = 78
 
-abbrev pub event_word_law : ℕ
-event_word_law = 79
+abbrev pub event_keyword : ℕ
+event_keyword = 79
 
 abbrev pub passive_word : ℕ
 passive_word = 80
@@ -112,7 +112,7 @@ marks =
 unfoldable pub reserved : List Spelling
 reserved =
     spelled (112 ∷ 97 ∷ 114 ∷ 97 ∷ 109 ∷ []) param_word
-    ∷ spelled (101 ∷ 118 ∷ 101 ∷ 110 ∷ 116 ∷ []) event_word_law
+    ∷ spelled (101 ∷ 118 ∷ 101 ∷ 110 ∷ 116 ∷ []) event_keyword
     ∷ spelled (114 ∷ 97 ∷ 110 ∷ 107 ∷ []) rank_word
     ∷ spelled (102 ∷ 114 ∷ 111 ∷ 109 ∷ []) from_word
     ∷ spelled (112 ∷ 97 ∷ 115 ∷ 115 ∷ 105 ∷ 118 ∷ 101 ∷ []) passive_word

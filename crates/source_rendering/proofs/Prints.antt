@@ -10,7 +10,7 @@ use Rattle.lib_signature.proofs.Laws.{level_most, two_level}
 use Rattle.spec_language.specs.Syntax.{immediate, later}
 use Rattle.spec_language.specs.Grammar.{Arity, binary}
 use Rattle.text_formula.proofs.Parses.{operator_of_law}
-use Rattle.source_language.specs.Tokens.{SheetToken, number, name, sign, opening, closing, comma, colon, equals, bracket, unbracket, rank_word, from_word, by_word, nobody_word, later_word, seen_word, on_word, param_word, event_word_law, passive_word, active_word, row_word, end_sign}
+use Rattle.source_language.specs.Tokens.{SheetToken, number, name, sign, opening, closing, comma, colon, equals, bracket, unbracket, rank_word, from_word, by_word, nobody_word, later_word, seen_word, on_word, param_word, event_keyword, passive_word, active_word, row_word, end_sign}
 use Rattle.source_language.specs.Text.{TextConstant, plus, minus, Phrase, constant, named, cell, negation, operation, choice, Reaction, on, Body, passive, active, row, Parameter, parameter, TextEvent, event, TextBehaviour, behaviour, text}
 use Rattle.source_language.specs.Grammar.{IsValue, v_plus, v_minus, PhraseDerives, tighter, two_sided, negated, a_value, a_name, a_cell, bracketed, chosen, IsPlayers, nobody, last_player, and_player, IsFrom, from_unsaid, from_said, IsSeen, seen_unsaid, seen_said, Many, no_more, one_more, IsParameter, p_bare, p_given, IsEvent, e_event, IsReaction, r_now, r_later, IsBehaviour, b_passive, b_active, b_row, IsText, a_text}
 use Rattle.source_language.specs.Renaming.{phrase_as, reactions_as, parameter_as, event_as}
@@ -231,7 +231,7 @@ more_events : (es : List TextEvent) → All SpeltEvent es → (ts : List SheetTo
 unfolding event_tokens
 more_events [] s ts e = e
 more_events (event n k m ∷ es) s ts e =
-    more_mark event_word_law refl (more_name n s.0 (more_mark rank_word refl
+    more_mark event_keyword refl (more_name n s.0 (more_mark rank_word refl
     (more_number k (more_from m _ (more_events es s.1 ts e)))))
 
 more_parameters : (ps : List Parameter) → All SpeltParameter ps → (ts : List SheetToken) → Ended ts → Ended (parameter_tokens ps ts)

@@ -10,7 +10,7 @@ use Rattle.spec_language.specs.Sheet.{formula, state, Signal, Entry, Sheet, cell
 use Rattle.spec_language.specs.Sheet as S
 use Rattle.source_language.specs.Tokens.{SheetToken, number, name, sign, opening, closing, comma, colon, equals}
 use Rattle.source_language.specs.Tokens.{bracket, unbracket, rank_word, from_word, by_word, nobody_word, later_word}
-use Rattle.source_language.specs.Tokens.{seen_word, on_word, param_word, event_word_law, passive_word, active_word}
+use Rattle.source_language.specs.Tokens.{seen_word, on_word, param_word, event_keyword, passive_word, active_word}
 use Rattle.source_language.specs.Tokens.{row_word, end_sign, Spelling, spelled, marks, reserved, sign_of, in_word}
 use Rattle.source_language.specs.Text.{TextConstant, plus, minus, Phrase, constant, named, cell, negation, operation}
 use Rattle.source_language.specs.Text.{choice, Reaction, on, Body, passive, active, row, Parameter, parameter}
@@ -142,7 +142,7 @@ parameter_tokens (parameter s (some c) ∷ ps) ts = mark param_word (name 0 s �
 
 unfoldable pub event_tokens : List TextEvent → List SheetToken → List SheetToken
 event_tokens [] ts = ts
-event_tokens (event s n m ∷ es) ts = mark event_word_law (name 0 s ∷ mark rank_word (number 0 n ∷ from_tokens m (event_tokens es ts)))
+event_tokens (event s n m ∷ es) ts = mark event_keyword (name 0 s ∷ mark rank_word (number 0 n ∷ from_tokens m (event_tokens es ts)))
 
 abbrev pub phase_tokens : Phase → List SheetToken → List SheetToken
 phase_tokens immediate ts = mark colon ts
