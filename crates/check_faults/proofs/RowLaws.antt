@@ -1,5 +1,5 @@
 -- The rows as sets are the rows of the matrix: both take in the same names, node by node.
-use Rattle.lib_base.proofs.Prelude.{ℕ, ◌≤◌, ◌<◌, ◌+◌, ◌-◌, suc, zero, ◌*◌, ◌≡◌, refl, ◌∙◌, sym, ap, subst, true, false}
+use Rattle.lib_base.proofs.Prelude.{ℕ, ◌≤◌, ◌<◌, ◌+◌, suc, zero, ◌*◌, ◌≡◌, refl, ◌∙◌, sym, ap, subst, true, false}
 use Rattle.lib_base.proofs.Prelude.{Bool, ◌||◌, ◌&&◌, not, or-false, and-false, ◌≢◌, by_cases, List, [], ◌∷◌, length}
 use Rattle.lib_base.proofs.Prelude.{get_or, take, drop, length-set, set, length-drop, get_or-set_other, get_or-set_same}
 use Rattle.lib_base.proofs.Prelude.{get_or-drop, take-suc, eqb, ltb, add-one, dec_lt, ne_eqb, eqb-true, le-ltb, lt-ltb}

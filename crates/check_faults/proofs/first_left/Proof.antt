@@ -1,5 +1,5 @@
 -- The loop keeps: those passed are in the set.
-use Rattle.lib_base.proofs.Prelude.{ℕ, ◌≤◌, ◌<◌, ◌-◌, ◌≡◌, ◌∙◌, sym, true, not-false, arith}
+use Rattle.lib_base.proofs.Prelude.{ℕ, ◌≤◌, ◌<◌, ◌-◌, ◌≡◌, ◌∙◌, sym, true, arith}
 use borrow.Author.Count.{below_none, below_more}
 use Rattle.lib_bits.specs.Bits.{bit}
 use Rattle.check_faults.proofs.first_left.Statement.{statement}
@@ -27,5 +27,5 @@ first_left_spec =
     (λ c. omega arith)
     (λ c. omega arith)
     (λ c. let t = c.before.before.before.loop-i.invariant in
-    record { before = below_more _ _ t.before (sym c.before.contains.ensures ∙ not-false _ c.if-not-contains.false); within = omega arith })
+    record { before = below_more _ _ t.before (sym c.before.contains.ensures ∙ c.if-not-contains.false); within = omega arith })
     (λ c. let t = c.before.loop-i.invariant in record { before = t.before; within = t.within }))

@@ -71,7 +71,7 @@ reach_all_requires c κs =
 reaches_itself_requires : tie.Need-reaches_itself-requires invariant-loop decreases-loop invariant-search decreases-search
 reaches_itself_requires c κs =
     let f = c.before.before.before.before in
-    (f.reach_all-placed.auto.1.1.1.0 ∙ f.before.before.before.search.invariant.long, omega arith)
+    (f.reach_all-placed.auto.rows ∙ f.before.before.before.search.invariant.long, omega arith)
 
 -- what is told by set and rows holds of the event
 loop_again : tie.Need-loop-b-preserved invariant-loop decreases-loop invariant-search decreases-search
@@ -81,7 +81,7 @@ loop_again c =
     turn c.before.before.before.before.loop-b.invariant (omega arith) (sym e ∙ sym c.before.reaches_itself.ensures ∙ c.if-reaches_itself.false)
 
 search_again : tie.Need-search-preserved invariant-loop decreases-loop invariant-search decreases-search
-search_again c = pass c.before.before.before.before.before.before.search.invariant (omega arith) c.before.loop-b.invariant (omega arith) c.before.before.before.reach_all-placed.auto.1.1.1.0
+search_again c = pass c.before.before.before.before.before.before.search.invariant (omega arith) c.before.loop-b.invariant (omega arith) c.before.before.before.reach_all-placed.auto.rows
 
 -- left where one reaches itself
 returns_2 : tie.Need-returns-then-reaches_itself invariant-loop decreases-loop invariant-search decreases-search

@@ -23,15 +23,15 @@ pub reach_all_spec : {M : Type 1} → statement M
 reach_all_spec =
     tie.close
     (tie.spec
-    (λ c κs. c.before.before.before.requires)
-    (λ c κs. let f = c.before.before.before in
-    let p = f.before.before.before.before.requires in
-    (f.fill_rows.auto.1.1.1.0 ∙ p.1, p.3, record { none_past = rows_past f.fill_rows.ensures }))
-    (λ c κs. let f = c.before.before.before.before.before in
-    let p = f.before.before.before.before.requires in
-    (f.fill_rows.auto.1.1.1.0 ∙ p.1, p.3))
-    (λ c. let f = c.before.before.before.before.before.before.before.before in
-    c.before.before.close_left.ensures.long ∙ f.fill_rows.auto.1.1.1.0)
-    (λ c. let f = c.before.before.before.before.before.before.before.before in
-    let p = f.before.before.before.before.requires in
-    round_told _ _ _ p.0 p.3 p.4 f.fill_rows.ensures c.before.before.before.before.place_all-placed.ensures c.before.before.close_left.ensures))
+    (λ c κs. c.requires)
+    (λ c κs. let f = c in
+    let p = f.requires in
+    (f.fill_rows.auto.rows ∙ p.1, p.3, record { none_past = rows_past f.fill_rows.ensures }))
+    (λ c κs. let f = c in
+    let p = f.requires in
+    (f.fill_rows.auto.rows ∙ p.1, p.3))
+    (λ c. let f = c in
+    c.close_left.ensures.long ∙ f.fill_rows.auto.rows)
+    (λ c. let f = c in
+    let p = f.requires in
+    round_told _ _ _ p.0 p.3 p.4 f.fill_rows.ensures c.place_all-placed.ensures c.close_left.ensures))
