@@ -15,10 +15,10 @@ node_room d e q h = room_as (ap (node_words d e) q) h
 node_wrote : (d : List ℕ) (e : ℕ) {t t' : List ℕ} {k x y r : ℕ} → x ≡ y → Wrote t k (node_words d e x) t' r → Wrote t k (node_words d e y) t' r
 node_wrote d e q h = wrote_as (ap (node_words d e) q) h
 
-abbrev invariant-loop : tie.invariant-loop
+abbrev invariant-loop : tie.invariant-loop-j
 invariant-loop d e i start count t₀ k next₀ j₀ t next j = Turn (λ s. node_words d e (moved d i (get_or d (start + s) 0))) count t₀ k j t next
 
-abbrev decreases-loop : tie.decreases-loop
+abbrev decreases-loop : tie.decreases-loop-j
 decreases-loop d e i start count t₀ k next₀ j₀ t next j = count - j
 
 pub emit_expr_spec : {M : Type 1} → statement M
@@ -36,11 +36,11 @@ emit_expr_spec =
     (λ c κs. (
       c.before.before.before.before.before.before.before.requires.0.0,
       node_room _ _ c.before.moved_node.ensures
-          (turn_room c.before.before.before.before.loop.invariant c.before.before.before.loop-test.true),
+          (turn_room c.before.before.before.before.loop-j.invariant c.before.before.before.loop-j-test.true),
     ))
     (λ c. omega arith)
     (λ c. omega arith)
-    (λ c. turn c.before.before.before.before.before.before.before.loop.invariant c.before.before.before.before.before.before.loop-test.true
-    (node_wrote _ _ c.before.before.before.before.moved_node.ensures c.before.before.emit_node.ensures))
-    (λ c. turn_long c.before.loop.invariant)
-    (λ c. end c.before.loop.invariant c.loop-test.false))
+    (λ c. turn c.before.before.before.before.before.before.before.loop-j.invariant c.before.before.before.before.before.before.loop-j-test.true
+    (node_wrote _ _ c.before.before.before.before.moved_node.ensures c.before.before.emit_node-next.ensures))
+    (λ c. turn_long c.before.loop-j.invariant)
+    (λ c. end c.before.loop-j.invariant c.loop-j-test.false))

@@ -13,4 +13,4 @@ emit_instr_spec =
     (λ c κs. search rules)
     (λ c. search rules)
     (λ c. search rules)
-    (λ c. wrote_two c.before.before.before.before.before.before.put_word.ensures c.before.before.put_word2.ensures))
+    (λ c. wrote_two c.before.before.before.before.before.before.put_word.ensures c.before.before.put_word-2.ensures))

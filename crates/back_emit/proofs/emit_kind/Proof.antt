@@ -10,7 +10,7 @@ emit_kind_spec =
     tie.close
     (tie.spec
     (λ c κs. search rules)
-    (λ c κs. (c.before.before.before.before.before.requires.0, room_as (kind_some _ _ _ _ c.before.before.entry_of_law.ensures _ _ c.before.if1.true) c.before.before.before.before.before.requires.1))
+    (λ c κs. (c.before.before.before.before.before.requires.0, room_as (kind_some _ _ _ _ c.before.before.entry_of.ensures _ _ c.before.if-entry_of-kind.true) c.before.before.before.before.before.requires.1))
     (λ c. search rules)
-    (λ c. wrote_as (kind_some _ _ _ _ c.before.before.before.before.before.entry_of_law.ensures _ _ c.before.before.before.before.if1.true) c.before.before.emit_turn.ensures)
-    (λ c. wrote_as (kind_none _ _ _ _ c.before.entry_of_law.ensures _ _ c.if1.false) (wrote_none _ _)))
+    (λ c. wrote_as (kind_some _ _ _ _ c.before.before.before.before.before.entry_of.ensures _ _ c.before.before.before.before.if-entry_of-kind.true) c.before.before.emit_turn.ensures)
+    (λ c. wrote_as (kind_none _ _ _ _ c.before.entry_of.ensures _ _ c.if-entry_of-kind.false) (wrote_none _ _)))

@@ -10,9 +10,9 @@ emit_member_spec =
     tie.close
     (tie.spec
     (λ c κs. search rules)
-    (λ c. wrote_as (member_none _ _ _ _ c.before.entry_of_law.ensures _ c.if1.true) (wrote_none _ _))
+    (λ c. wrote_as (member_none _ _ _ _ c.before.entry_of.ensures _ c.if-entry_of-eq0.true) (wrote_none _ _))
     (λ c. search rules)
     (λ c. search rules)
-    (λ c κs. room_as (member_some _ _ _ _ c.before.before.entry_of_law.ensures _ c.before.if1.false) c.before.before.before.before.before.requires.1)
+    (λ c κs. room_as (member_some _ _ _ _ c.before.before.entry_of.ensures _ c.before.if-entry_of-eq0.false) c.before.before.before.before.before.requires.1)
     (λ c. search rules)
-    (λ c. wrote_as (member_some _ _ _ _ c.before.before.before.before.before.entry_of_law.ensures _ c.before.before.before.before.if1.false) c.before.before.emit_instr.ensures))
+    (λ c. wrote_as (member_some _ _ _ _ c.before.before.before.before.before.entry_of.ensures _ c.before.before.before.before.if-entry_of-eq0.false) c.before.before.emit_instr.ensures))

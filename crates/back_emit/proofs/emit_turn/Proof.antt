@@ -12,9 +12,9 @@ emit_turn_spec =
     tie.close
     (tie.spec
     (λ c κs. search rules)
-    (λ c κs. ((c.before.before.before.before.requires.0.0.long, omega (arith, c.before.before.before.before.requires.0.0.few), sound_inside c.before.before.before.before.requires.0.0 (omega arith) c.before.entry_of_law.ensures), room_first _ _ (room_as (turn_is _ _ _ _ c.before.entry_of_law.ensures _) c.before.before.before.before.requires.1)))
+    (λ c κs. ((c.before.before.before.before.requires.0.0.long, omega (arith, c.before.before.before.before.requires.0.0.few), sound_inside c.before.before.before.before.requires.0.0 (omega arith) c.before.entry_of-v.ensures), room_first _ _ (room_as (turn_is _ _ _ _ c.before.entry_of-v.ensures _) c.before.before.before.before.requires.1)))
     (λ c. search rules)
     (λ c. search rules)
-    (λ c κs. room_then c.before.before.before.emit_expr.ensures (room_as (turn_is _ _ _ _ c.before.before.before.before.before.entry_of_law.ensures _) c.before.before.before.before.before.before.before.before.requires.1))
+    (λ c κs. room_then c.before.before.before.emit_expr-next.ensures (room_as (turn_is _ _ _ _ c.before.before.before.before.before.entry_of-v.ensures _) c.before.before.before.before.before.before.before.before.requires.1))
     (λ c. search rules)
-    (λ c. wrote_as (turn_is _ _ _ _ c.before.before.before.before.before.before.before.before.entry_of_law.ensures _) (wrote_then c.before.before.before.before.before.before.emit_expr.ensures c.before.before.emit_instr.ensures)))
+    (λ c. wrote_as (turn_is _ _ _ _ c.before.before.before.before.before.before.before.before.entry_of-v.ensures _) (wrote_then c.before.before.before.before.before.before.emit_expr-next.ensures c.before.before.emit_instr.ensures)))
