@@ -4,10 +4,10 @@ use Rattle.source_walk.proofs.Heads.{Owning, owning_start, owning_on, owning_end
 use Rattle.source_walk.proofs.own_heads.Statement.{statement}
 use Rattle.source_walk.proofs.own_heads.Tie as tie
 
-abbrev invariant-loop : tie.invariant-loop
+abbrev invariant-loop : tie.invariant-loop-i
 invariant-loop heads₀ i₀ heads i = Owning heads i
 
-abbrev decreases-loop : tie.decreases-loop
+abbrev decreases-loop : tie.decreases-loop-i
 decreases-loop heads₀ i₀ heads i = 256 - i
 
 pub own_heads_spec : {M : Type 1} → statement M
@@ -21,5 +21,5 @@ own_heads_spec =
     (λ c. omega arith)
     (λ c. omega arith)
     (λ c. omega arith)
-    (λ c. owning_on c.before.loop.invariant c.loop-test.true)
-    (λ c. owning_ends c.before.loop.invariant c.loop-test.false))
+    (λ c. owning_on c.before.loop-i.invariant c.loop-i-test.true)
+    (λ c. owning_ends c.before.loop-i.invariant c.loop-i-test.false))
