@@ -9,4 +9,4 @@ byte_at_spec =
     (tie.spec
     (λ c. search rules)
     (λ c. search rules)
-    (λ c. sym (List·getD-eq-default c.before.args.text.now 0 c.if1.false)))
+    (λ c. sym (List·getD-eq-default c.before.args.text.now 0 c.if-at-text.false)))

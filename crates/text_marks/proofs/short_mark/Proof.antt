@@ -5,10 +5,10 @@ use Rattle.text_marks.proofs.Rows.{kept_rows, short_none}
 use Rattle.text_marks.proofs.short_mark.Statement.{statement}
 use Rattle.text_marks.proofs.short_mark.Tie as tie
 
-returns_11 : tie.Need-returns-11
+returns_11 : tie.Need-returns-in_default
 unfolding kept_rows formula_marks
 returns_11 c =
-    let upto10 = c.match.rest in
+    let upto10 = c.in_default.in_default-own.rest in
     let upto9 = upto10.0 in
     let upto8 = upto9.0 in
     let upto7 = upto8.0 in
@@ -25,6 +25,6 @@ pub short_mark_spec : {M : Type 1} → statement M
 unfolding formula_marks spelled_alike number_of
 short_mark_spec =
     tie.close
-    (tie.spec (λ c. rw c.match.keys1) (λ c. rw c.match.keys2) (λ c. rw c.match.keys3)
-    (λ c. rw c.match.keys4) (λ c. rw c.match.keys5) (λ c. rw c.match.keys6) (λ c. rw c.match.keys7)
-    (λ c. rw c.match.keys8) (λ c. rw c.match.keys9) (λ c. rw c.match.keys10) returns_11)
+    (tie.spec (λ c. rw c.in-33.is) (λ c. rw c.in-43.is) (λ c. rw c.in-45.is)
+    (λ c. rw c.in-42.is) (λ c. rw c.in-47.is) (λ c. rw c.in-62.is) (λ c. rw c.in-60.is)
+    (λ c. rw c.in-40.is) (λ c. rw c.in-41.is) (λ c. rw c.in-44.is) returns_11)
