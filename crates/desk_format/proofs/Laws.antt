@@ -1,24 +1,12 @@
 -- Text put after what a buffer holds; the library's fewest digits of a number are the number in decimal, by induction
 -- on how many they are.
 use Rattle.lib_base.proofs.Prelude.{ℕ, ◌≤◌, ◌<◌, ◌+◌, ◌-◌, suc, zero, ◌*◌, ◌%◌, ◌/◌, ◌^◌, ◌≡◌, refl, ◌∙◌, sym, ap, List}
-use Rattle.lib_base.proofs.Prelude.{[], ◌∷◌, ◌++◌, append_assoc, append-nil, length, get_or, take, drop}
-use Rattle.lib_base.proofs.Prelude.{drop_of_length-le, length-take-le, drop-cons, take-length, take-append_seam}
+use Rattle.lib_base.proofs.Prelude.{[], ◌∷◌, ◌++◌, append_assoc, append-nil, length, get_or, drop}
+use Rattle.lib_base.proofs.Prelude.{drop_of_length-le, drop-cons}
 use Rattle.lib_base.proofs.Prelude.{pow-suc, add-one, lt-ltb, arith}
-use lib.Seq.{take-append-add}
-use Rattle.io.specs.Counts.{IsPrefixLen}
 use Rattle.io.specs.Digits.{hex_digit_ascii, last_digits, IsDigitCount}
 use Rattle.lib_base.proofs.Pick.{if_lt, if_not_lt}
 use Rattle.desk_format.specs.Script.{decimal_in, decimal_text, signed_text, values_text, refusal_line, commit_line, board_line}
-
-pub seam : (text d post : List ℕ) → take (length text) ((take (length text) text ++ d) ++ post) ≡ text
-seam text d post =
-    ap (λ (l : List ℕ). take (length text) ((l ++ d) ++ post)) (take-length text) ∙ ap (λ (l : List ℕ). take (length text) l) (append_assoc text d post) ∙ take-append_seam text (d ++ post)
-
--- a text copied to byte `at`
-pub joined : (out text d post : List ℕ) (at : ℕ) → at ≤ length out → take (at + length text) (take at out ++ ((take (length text) text ++ d) ++ post)) ≡ take at out ++ text
-joined out text d post at h =
-    ap (λ (k : ℕ). take (k + length text) (take at out ++ ((take (length text) text ++ d) ++ post))) (sym (length-take-le at out h))
-    ∙ take-append-add (take at out) ((take (length text) text ++ d) ++ post) (length text) ∙ ap (λ (l : List ℕ). take at out ++ l) (seam text d post)
 
 digit : (d : ℕ) → d < 10 → hex_digit_ascii d ≡ 48 + d
 digit d h = rw (lt-ltb d 10 h) refl
@@ -64,9 +52,6 @@ spelled (suc places) (suc zero) n h f =
 spelled (suc places) (suc (suc k)) n h f =
     if_not_lt _ _ n 10 (two_digits n k f)
     (ap (λ (l : List ℕ). l ++ (hex_digit_ascii (n % 10) ∷ [])) (spelled places (suc k) (n / 10) (omega arith) (tenth n k f)) ∙ ap (λ (d : ℕ). decimal_in places (n / 10) ++ (d ∷ [])) (digit (n % 10) (omega arith)))
-
-pub counts : (r : ℕ) (out : List ℕ) → r ≤ length out → IsPrefixLen r out
-counts r out h = (h, sym (length-take-le r out h))
 
 -- t and then u, after o
 pub after : (o a b t u v : List ℕ) → b ≡ a ++ u → a ≡ o ++ t → t ++ u ≡ v → b ≡ o ++ v

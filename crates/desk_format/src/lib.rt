@@ -117,8 +117,9 @@ fn print_text(out: &mut [u8], at: usize, text: &[u8]) -> usize
     ensures value { result ≡ at + length text.now }
     ensures out_after { take result out.new ≡ take at out.old ++ text.now }
 {
-    let n = bytes::copy(text, &mut out[at..]);
-    at + n
+    let end = at + text.len();
+    out[at..end].copy_from_slice(text);
+    end
 }
 
 // Puts n in decimal.
