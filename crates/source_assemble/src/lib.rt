@@ -95,7 +95,7 @@ fn put_result(text: &[u8], n: usize, out: &[u8], buffer: &mut [u8]) -> u64
             faults::SHORT_BUFFER * faults::KIND + (text.len() as u64),
         );
     }
-    bytes::copy(&out[0..n], buffer);
+    buffer[..n].copy_from_slice(&out[0..n]);
     answers::VALUE + (n as u64)
 }
 

@@ -88,7 +88,7 @@ fn put_result(large: bool, depth: usize, field: &[u8], buffer: &mut [u8]) -> u64
     if buffer.len() < field.len() {
         return answers::SHORT_FIELD;
     }
-    bytes::copy(field, buffer);
+    buffer[..field.len()].copy_from_slice(field);
     ACCEPTED + (field.len() as u64)
 }
 
