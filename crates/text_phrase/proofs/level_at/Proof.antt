@@ -13,5 +13,5 @@ level_at_spec =
     (λ c. search rules)
     (λ c. search rules)
     (λ c κs. search rules)
-    (λ c. (rw (← c.token-level.ensures) (search code depth 12), λ h. c.before.before.if1.true))
+    (λ c. (rw (← c.token_level.ensures) (search code depth 12), λ h. c.before.before.if-at-ts.true))
     (λ c. (search code depth 12, λ h. absurd (omega arith))))

@@ -13,5 +13,5 @@ mark_at_spec =
     (λ c. search rules)
     (λ c. search rules)
     (λ c κs. search rules)
-    (λ c. (rw (← c.token-mark.ensures) (search code depth 12), λ h. c.before.before.if1.true))
+    (λ c. (rw (← c.token_mark.ensures) (search code depth 12), λ h. c.before.before.if-at-ts.true))
     (λ c. (search code depth 12, λ h. absurd (omega arith))))

@@ -6,11 +6,11 @@ use Rattle.text_phrase.specs.Phrase.{level_code}
 use Rattle.text_phrase.proofs.token_level.Statement.{statement}
 use Rattle.text_phrase.proofs.token_level.Tie as tie
 
-returns_2 : tie.Need-returns-2
+returns_2 : tie.Need-returns-then-f-gt-LAST
 unfolding level_code
 returns_2 c =
     let t = c.before.before.args.t in
-    rw (eq-eqb _ 18 c.before.if1.false, level_beyond (t % 4294967296) c.if2.true)
+    rw (eq-eqb _ 18 c.before.if-t-ne-FUNCTION_KIND.false, level_beyond (t % 4294967296) c.if-f-gt-LAST.true)
 
 pub token_level_spec : {M : Type 1} → statement M
 unfolding level_code
@@ -21,4 +21,4 @@ token_level_spec =
     returns_2
     (λ c. search rules)
     (λ c κs. search rules)
-    (λ c. rw (eq-eqb _ 18 c.before.before.if1.false) c.level_of_law.ensures))
+    (λ c. rw (eq-eqb _ 18 c.before.before.if-t-ne-FUNCTION_KIND.false) c.level_of.ensures))
