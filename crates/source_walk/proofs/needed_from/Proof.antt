@@ -21,7 +21,7 @@ loop_again c =
     let at_needed_after = c.before.before in
     let at_test = at_needed_after.before.before in
     counting_on at_test.before.loop-at.invariant at_test.loop-at-test.true refl at_needed_after.needed_after-n.ensures.0
-    at_needed_after.needed_after-n.ensures.1 c.before.tag_after-tag.ensures c.left_After.ensures
+    at_needed_after.needed_after-n.ensures.1 c.before.tag_after-tag.ensures c.left_after-left.ensures
 
 returns : tie.Need-returns invariant-loop decreases-loop
 returns c = (counting_ends c.before.loop-at.invariant c.loop-at-test.false, c.before.loop-at.invariant.few)
