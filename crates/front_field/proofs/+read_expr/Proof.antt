@@ -4,13 +4,13 @@ use Rattle.lib_base.proofs.Prelude.{ℕ, ◌<◌, ap, length, length-set, rules,
 use Rattle.front_field.proofs.Laws.{Turn, unroll, turn_fault, turn_done, turn_end}
 use borrow.Fn.Kinds.{In}
 use borrow.Fn.PlainCycle.{Measures, is, falls, and}
-use Rattle.front_field.proofs.read_expr-r.Reads as read-expr
-use Rattle.front_field.proofs.read_expr-r.Kinds as read-expr-kinds
+use Rattle.front_field.proofs.read_expr.Reads as read-expr
+use Rattle.front_field.proofs.read_expr.Kinds as read-expr-kinds
 use Rattle.front_field.proofs.+read_expr.Lts-read_expr as read-expr-lts
-use Rattle.lib_signature.proofs.arity_of-k.Reads as arity-of-reads
+use Rattle.lib_signature.proofs.arity_of.Reads as arity-of-reads
 use Rattle.front_field.proofs.close_at.Reads as close-at-reads
-use Rattle.front_field.proofs.read_head-h.Reads as read-head-reads
-use Rattle.sheet_field.proofs.field_value-v.Reads as field-value-reads
+use Rattle.front_field.proofs.read_head.Reads as read-head-reads
+use Rattle.sheet_field.proofs.field_value.Reads as field-value-reads
 use Rattle.front_field.proofs.+read_expr.{statement}
 use Rattle.front_field.proofs.+read_expr.Tie.{close}
 
@@ -48,62 +48,55 @@ pub +read_expr_spec : {M : Type 1} → statement M
 +read_expr_spec = close μ-read-expr λ t. read-expr-lts.spec (claims_read_expr t)
     (read_expr_at t) read-expr.Post read_expr_Inv_loop read_expr_μ_loop (search rules) (search rules) (search rules)
     (λ c.
-    let h = rw c.before.in-Leaf.node.1 at c.before.before.before.read_head-h.ensures.1.0 in
+    let h = rw c.in-Leaf.is at c.read_head-h.ensures.1.0 in
     omega arith)
     (λ c.
-    let h = rw c.before.in-Leaf.node.1 at c.before.before.before.read_head-h.ensures.1.0 in
+    let h = rw c.in-Leaf.is at c.read_head-h.ensures.1.0 in
     omega arith)
     (λ c.
-    let h = rw c.before.in-Leaf.node.1 at c.before.before.before.read_head-h.ensures.1.0 in
+    let h = rw c.in-Leaf.is at c.read_head-h.ensures.1.0 in
     omega arith)
     (search rules) (search rules) (search rules)
     (λ c.
-    let at_read_head = c.before.before.before.before.before in
-    let value = c.before.field_value-v.ensures.0 in
-    let e = c.before.before.before.in-Apply.f.1 in
-    let h = rw e at at_read_head.read_head-h.ensures.1.0 in
+    let value = c.field_value-v.ensures.0 in
+    let e = c.in-Apply.is in
+    let h = rw e at c.read_head-h.ensures.1.0 in
     record {
-      whole = rw (unroll, ← at_read_head.read_head-h.ensures.0, e, ← value, ← c.arity_of-k.ensures.0);
+      whole = rw (unroll, ← c.read_head-h.ensures.0, e, ← value, ← c.arity_of-k.ensures.0);
       deep = h.0;
       within = omega (arith, ap length value);
       first = omega arith;
       reached = omega (arith, ap length value);
       nodes = omega arith;
       onwards = omega arith;
-      room = at_read_head.before.before.before.requires.1.0;
-      kept = at_read_head.before.before.before.requires.1.1;
+      room = c.requires.1.0;
+      kept = c.requires.1.1;
       few = c.arity_of-k.ensures.1;
     })
     (omega arith) (omega arith) (omega arith) (search rules)
     (λ c κs.
-    let at_loop = c.before.before.before.before in
-    let at_entry_lem = at_loop.before.before.before.before.before.before.before.before in
-    (omega (arith, at_entry_lem.requires.0), (omega (arith, c.before.read_expr-arg-1.given), omega arith)))
+    (omega (arith, c.requires.0), (omega (arith, c.read_expr-arg-1.given), omega arith)))
     (search rules) (search rules) (omega arith)
     (λ c.
-    let at_read_expr = c.before.before.before.before in
-    turn_fault at_read_expr.before.before.before.before.loop-k.invariant
-    at_read_expr.before.before.before.loop-k-test.true at_read_expr.read_expr-r.ensures.0
-    c.in_default.field-0.1)
+    turn_fault c.loop-k.invariant
+    c.loop-k-test.true c.read_expr-r.ensures.0
+    c.in_default.is)
     (λ c.
-    let at_read_expr = c.before.before.before.before.before in
-    let b = rw c.before.in-Done.size.1 at at_read_expr.read_expr-r.ensures.1 in
-    omega (arith, at_read_expr.before.before.read_expr-arg-1.given))
+    let b = rw c.in-Done.is at c.read_expr-r.ensures.1 in
+    omega (arith, c.read_expr-arg-1.given))
     (omega arith) (omega arith)
     (λ c.
-    let at_read_expr = c.before.before.before.before.before in
-    let call = at_read_expr.read_expr-r in
-    turn_done at_read_expr.before.before.before.before.loop-k.invariant
-    at_read_expr.before.before.before.loop-k-test.true call.ensures.0 c.before.in-Done.size.1
-    call.ensures.1 call.auto.1.1.0)
+    let call = c.read_expr-r in
+    turn_done c.loop-k.invariant
+    c.loop-k-test.true call.ensures.0 c.in-Done.is
+    call.ensures.1 call.auto.draft)
     (omega arith)
-    (λ c. (rw (unroll, ← c.before.before.before.read_head-h.ensures.0, c.before.in-NoHead.k.1), tt))
+    (λ c. (rw (unroll, ← c.read_head-h.ensures.0, c.in-NoHead.is), tt))
     (λ c. simp length-set)
     (λ c.
-    let h = rw c.before.in-Leaf.node.1 at c.before.before.before.read_head-h.ensures.1.0 in
-    (rw (unroll, ← c.before.before.before.read_head-h.ensures.0, c.before.in-Leaf.node.1), omega arith))
+    let h = rw c.in-Leaf.is at c.read_head-h.ensures.1.0 in
+    (rw (unroll, ← c.read_head-h.ensures.0, c.in-Leaf.is), omega arith))
     (omega arith)
     (λ c.
-    let at_loop_test = c.before.before.before.before in
-    turn_end at_loop_test.before.loop-k.invariant _ at_loop_test.loop-k-test.false
-    c.before.before.close_at.ensures.0 c.before.before.close_at.ensures.1)
+    turn_end c.loop-k.invariant _ c.loop-k-test.false
+    c.close_at.ensures.0 c.close_at.ensures.1)

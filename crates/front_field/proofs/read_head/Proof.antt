@@ -17,14 +17,14 @@ read_head_spec =
     (λ c. search rules)
     (λ c κs. search rules)
     (λ c.
-    let told = c.before.in_default.field-0.1 in
-    let e = sym c.before.before.before.field_answer-a.ensures.0 ∙ told in
+    let told = c.before.in_default.is in
+    let e = sym c.field_answer-a.ensures.0 ∙ told in
     let said = c.refusal_in.ensures ∙ ap field_refusal told in
-    (rw e (ap NoHead said), (rw said (refused_some c.before.before.before.before.before.args.s.now 16 19 _ e), rw e (omega arith))))
+    (rw e (ap NoHead said), (rw said (refused_some c.args.s.now 16 19 _ e), rw e (omega arith))))
     (λ c κs. search rules)
     (λ c κs. search rules)
     (λ c.
     let v = c.before.field_value.ensures.0 in (
-      rw (← v, sym c.before.before.before.before.before.field_answer-a.ensures.0 ∙ c.before.before.before.in-Value.t.1) c.head_of.ensures.0,
+      rw (← v, sym c.field_answer-a.ensures.0 ∙ c.in-Value.is) c.head_of.ensures.0,
       (rw v at c.head_of.ensures.1, rw v at c.before.field_value.ensures.1.1),
     )))
