@@ -12,6 +12,6 @@ ended_spec =
     (λ c. search rules)
     (λ c. search rules)
     (λ c κs. search rules)
-    (λ c. rw (c.before.before.before.in-Done.at.1, ← c.before.mark_at.ensures.0) (search code depth 12))
+    (λ c. rw (c.in-Done.is, ← c.before.mark_at.ensures.0) (search code depth 12))
     (λ c. let h = c.before.mark_at.ensures.1 (omega arith) in omega arith)
-    (λ c. rw (c.before.before.before.in-Done.at.1, ← c.before.mark_at.ensures.0) (search code depth 12)))
+    (λ c. rw (c.in-Done.is, ← c.before.mark_at.ensures.0) (search code depth 12)))

@@ -12,4 +12,4 @@ under_spec =
     (λ c. search rules)
     (λ c. search rules)
     (λ c κs. search rules)
-    (λ c. rw (c.in-Done.at.1, c.larger_size.ensures)))
+    (λ c. rw (c.in-Done.is, c.larger_size.ensures)))
