@@ -9,6 +9,6 @@ add_met_spec =
     tie.close
     (tie.spec
     (λ c κs. search rules)
-    (λ c j. met_none _ _ _ j (sym c.before.entry-mark.ensures ∙ c.if1.true))
+    (λ c j. met_none _ _ _ j (sym c.before.entry_mark.ensures ∙ c.if-entry_mark-eq0.true))
     (λ c κs. search rules)
-    (λ c j. c.insert.ensures j ∙ met_one _ _ _ j (λ z. c.before.if1.false (c.before.before.entry-mark.ensures ∙ z))))
+    (λ c j. c.insert.ensures j ∙ met_one _ _ _ j (λ z. c.before.if-entry_mark-eq0.false (c.before.before.entry_mark.ensures ∙ z))))

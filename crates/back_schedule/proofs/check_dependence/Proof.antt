@@ -11,6 +11,6 @@ check_dependence_spec =
     (λ c κs. search rules)
     (λ c κs. search rules)
     (λ c. search rules)
-    (λ c. circle_checked _ _ _ _ (left_out _ _ _ c.before.before.before.before.order-under.ensures c.before.count-turns.ensures c.if1.true))
+    (λ c. circle_checked _ _ _ _ (left_out _ _ _ c.before.before.before.before.order_under-count.ensures c.before.count_turns.ensures c.if-count-count_turns.true))
     (λ c. search rules)
-    (λ c. let h = c.before.before.before.before.order-under.ensures in order_checked _ _ _ _ _ (all_in _ _ _ h c.before.count-turns.ensures c.if1.false) h))
+    (λ c. let h = c.before.before.before.before.order_under-count.ensures in order_checked _ _ _ _ _ (all_in _ _ _ h c.before.count_turns.ensures c.if-count-count_turns.false) h))

@@ -8,10 +8,10 @@ use Rattle.back_schedule.proofs.OrderingLaws.{turn_from, mark_fits}
 use Rattle.back_schedule.proofs.count_turns.Statement.{statement}
 use Rattle.back_schedule.proofs.count_turns.Tie as tie
 
-abbrev invariant-loop : tie.invariant-loop
+abbrev invariant-loop : tie.invariant-loop-i
 invariant-loop d e n sum₀ i₀ sum i = Sum (λ j. 1 - met_mark (entry_of d e j)) n 0 i sum
 
-abbrev decreases-loop : tie.decreases-loop
+abbrev decreases-loop : tie.decreases-loop-i
 decreases-loop d e n sum₀ i₀ sum i = n - i
 
 pub count_turns_spec : {M : Type 1} → statement M
@@ -24,10 +24,10 @@ count_turns_spec =
     (λ c. sum_start)
     (λ c κs. omega arith)
     (λ c κs. search rules)
-    (λ c. omega (arith, mark_fits _ c.entry-mark.ensures))
-    (λ c. omega (arith, mark_fits _ c.entry-mark.ensures))
+    (λ c. omega (arith, mark_fits _ c.entry_mark.ensures))
+    (λ c. omega (arith, mark_fits _ c.entry_mark.ensures))
     (λ c. omega arith)
     (λ c. omega arith)
     (λ c. omega arith)
-    (λ c. sum_turn c.before.before.before.loop.invariant c.before.before.loop-test.true (turn_from _ _ _ c.before.entry_of_law.ensures c.entry-mark.ensures) (omega arith))
-    (λ c. omega (arith, sum_end c.before.loop.invariant c.loop-test.false)))
+    (λ c. sum_turn c.before.before.before.loop-i.invariant c.before.before.loop-i-test.true (turn_from _ _ _ c.before.entry_of.ensures c.entry_mark.ensures) (omega arith))
+    (λ c. omega (arith, sum_end c.before.loop-i.invariant c.loop-i-test.false)))
