@@ -10,7 +10,7 @@ unfolding padded
 returns c =
     let at_put_word2 = c.before.before.before.before.before.before in
     wrote_then (wrote_two at_put_word2.before.before.before.before.put_word.ensures
-    at_put_word2.put-word2.ensures) c.before.before.write-zeros.ensures
+    at_put_word2.put_word-2.ensures) c.before.before.write_zeros.ensures
 
 pub write_head_spec : {M : Type 1} → statement M
 unfolding padded

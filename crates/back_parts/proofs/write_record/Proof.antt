@@ -15,9 +15,9 @@ returns : tie.Need-returns
 returns c =
     let at_put_word3 = c.before.before.before.before.before.before.before in
     let at_put_word = at_put_word3.before.before.before.before.before.before.before.before in
-    rw (← c.before.before.before.count-members.ensures) (wrote_four at_put_word.put_word.ensures
-    at_put_word3.before.before.before.before.put-word2.ensures at_put_word3.put-word3.ensures
-    c.before.before.put-word4.ensures)
+    rw (← c.before.before.before.count_members.ensures) (wrote_four at_put_word.put_word.ensures
+    at_put_word3.before.before.before.before.put_word-2.ensures at_put_word3.put_word-3.ensures
+    c.before.before.put_word-4.ensures)
 
 pub write_record_spec : {M : Type 1} → statement M
 write_record_spec =

@@ -4,13 +4,13 @@ use Rattle.back_parts.proofs.PartLaws.{length_numbers, numbers_room, rights_wrot
 use Rattle.back_parts.proofs.write_rights.Statement.{statement}
 use Rattle.back_parts.proofs.write_rights.Tie as tie
 
-write_zeros_requires : tie.Need-write-zeros-requires
+write_zeros_requires : tie.Need-write_zeros-requires
 write_zeros_requires c κs =
     let at_entry_lem = c.before.before.before.before.before.before.before in
     let a = at_entry_lem.args in
     omega (arith, c.before.before.before.write-numbers.ensures.next, length_numbers a.draft.now 4256 a.behaviours)
 
-write_zeros_requires_2 : tie.Need-write-zeros-requires-2
+write_zeros_requires_2 : tie.Need-write_zeros-requires-2
 write_zeros_requires_2 c κs =
     let at_slice_known2 = c.before.before.before.before.before.before.before.before.before in
     let at_entry_lem = at_slice_known2.before.before.before.before.before.before in
