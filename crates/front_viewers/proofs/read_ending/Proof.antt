@@ -19,4 +19,4 @@ read_ending_spec =
     (λ c. search code depth 12)
     (λ c κs. search rules)
     (λ c. search rules)
-    (λ c. (rw (← c.before.before.read-viewer.ensures.0) (search code depth 12), c.before.before.read-viewer.ensures.1)))
+    (λ c. (rw (← c.before.before.read_viewer.ensures.0) (search code depth 12), c.before.before.read_viewer.ensures.1)))

@@ -13,7 +13,7 @@ take_viewer_spec =
     (λ c. search code depth 12)
     (λ c. search code depth 12)
     (λ c. search rules)
-    (λ c. omega (arith, c.shared-slice-known.given 0))
+    (λ c. omega (arith, c.shared_slice_known-1.given 0))
     (λ c. search rules)
     (λ c. search rules)
     (λ c. search rules)
