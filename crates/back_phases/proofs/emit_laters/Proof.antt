@@ -7,10 +7,10 @@ use Rattle.back_emit.proofs.WritingLaws.{Turn, start, turn_room, turn, end, turn
 use Rattle.back_phases.proofs.emit_laters.Statement.{statement}
 use Rattle.back_phases.proofs.emit_laters.Tie as tie
 
-abbrev invariant-loop : tie.invariant-loop
+abbrev invariant-loop : tie.invariant-loop-i
 invariant-loop d e n t₀ k next₀ i₀ t next i = Turn (turn_words_of_kind d e 3 2560) n t₀ k i t next
 
-abbrev decreases-loop : tie.decreases-loop
+abbrev decreases-loop : tie.decreases-loop-i
 decreases-loop d e n t₀ k next₀ i₀ t next i = n - i
 
 pub emit_laters_spec : {M : Type 1} → statement M
@@ -20,9 +20,9 @@ emit_laters_spec =
     invariant-loop
     decreases-loop
     (λ c. start c.before.before.requires.1)
-    (λ c κs. ((sound_at c.before.before.before.before.before.requires.0 c.before.loop-test.true, omega arith), turn_room c.before.before.loop.invariant c.before.loop-test.true))
+    (λ c κs. ((sound_at c.before.before.before.before.before.requires.0 c.before.loop-i-test.true, omega arith), turn_room c.before.before.loop-i.invariant c.before.loop-i-test.true))
     (λ c. omega arith)
     (λ c. omega arith)
-    (λ c. turn c.before.before.before.before.before.loop.invariant c.before.before.before.before.loop-test.true c.before.before.emit-kind.ensures)
-    (λ c. turn_long c.before.loop.invariant)
-    (λ c. end c.before.loop.invariant c.loop-test.false))
+    (λ c. turn c.before.before.before.before.before.loop-i.invariant c.before.before.before.before.loop-i-test.true c.before.before.emit_kind-next.ensures)
+    (λ c. turn_long c.before.loop-i.invariant)
+    (λ c. end c.before.loop-i.invariant c.loop-i-test.false))

@@ -9,6 +9,6 @@ phase_one_spec =
     tie.close
     (tie.spec
     (λ c κs. (c.before.before.before.before.requires.0, first_turns _ _ _ _ c.before.before.before.before.requires.1))
-    (λ c κs. (c.before.before.before.before.before.before.before.before.requires.0.0, first_laters _ _ _ _ c.before.before.before.emit-turns.ensures c.before.before.before.before.before.before.before.before.requires.1))
+    (λ c κs. (c.before.before.before.before.before.before.before.before.requires.0.0, first_laters _ _ _ _ c.before.before.before.emit_turns-next.ensures c.before.before.before.before.before.before.before.before.requires.1))
     (λ c. search rules)
-    (λ c. first_all _ _ _ _ c.before.before.before.before.before.before.emit-turns.ensures c.before.before.emit-laters.ensures))
+    (λ c. first_all _ _ _ _ c.before.before.before.before.before.before.emit_turns-next.ensures c.before.before.emit_laters.ensures))

@@ -9,6 +9,6 @@ phase_two_spec =
     tie.close
     (tie.spec
     (λ c κs. ((c.before.before.before.before.requires.0.0.long, c.before.before.before.before.requires.0.0.few), second_moves _ _ _ _ c.before.before.before.before.requires.1))
-    (λ c κs. (c.before.before.before.before.before.before.before.before.requires.0, second_again _ _ _ _ c.before.before.before.emit-moves.ensures c.before.before.before.before.before.before.before.before.requires.1))
+    (λ c κs. (c.before.before.before.before.before.before.before.before.requires.0, second_again _ _ _ _ c.before.before.before.emit_moves-next.ensures c.before.before.before.before.before.before.before.before.requires.1))
     (λ c. search rules)
-    (λ c. second_all _ _ _ _ c.before.before.before.before.before.before.emit-moves.ensures c.before.before.emit-passives.ensures))
+    (λ c. second_all _ _ _ _ c.before.before.before.before.before.before.emit_moves-next.ensures c.before.before.emit_passives.ensures))
