@@ -9,6 +9,6 @@ add_name_spec =
     tie.close
     (tie.spec
     (λ c κs. search rules)
-    (λ c j b. a_name _ j _ _ c.before.before.if1.true (c.insert.ensures j))
-    (λ c j b. far_name _ j _ c.if2.false b)
-    (λ c j b. no_name _ j _ c.if1.false))
+    (λ c j b. a_name _ j _ _ c.before.before.if-x-eq-NAME.true (c.insert.ensures j))
+    (λ c j b. far_name _ j _ c.if-j-lt-BEHAVIOURS.false b)
+    (λ c j b. no_name _ j _ c.if-x-eq-NAME.false))

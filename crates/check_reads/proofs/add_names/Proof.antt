@@ -9,5 +9,5 @@ add_names_spec =
     (tie.spec
     (λ c κs. search rules)
     (λ c κs. search rules)
-    (λ c j b. rw (le-leb 2 _ c.before.before.if1.true, ← c.before.names_in.ensures j b) (c.union-of.ensures j))
-    (λ c j b. rw (lt-leb 2 _ c.if1.false) (sym (or-false _))))
+    (λ c j b. rw (le-leb 2 _ c.before.before.if-v-ge-IMMEDIATE.true, ← c.before.names_in.ensures j b) (c.union_of.ensures j))
+    (λ c j b. rw (lt-leb 2 _ c.if-v-ge-IMMEDIATE.false) (sym (or-false _))))

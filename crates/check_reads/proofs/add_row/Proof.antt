@@ -9,5 +9,5 @@ add_row_spec =
     (tie.spec
     (λ c κs. search rules)
     (λ c κs. search rules)
-    (λ c j. rw (sym c.before.before.contains.ensures ∙ c.before.if1.true) (c.union-of.ensures j))
-    (λ c j. rw (sym c.before.contains.ensures ∙ c.if1.false) (sym (or-false _))))
+    (λ c j. rw (sym c.before.before.contains.ensures ∙ c.before.if-contains.true) (c.union_of.ensures j))
+    (λ c j. rw (sym c.before.contains.ensures ∙ c.if-contains.false) (sym (or-false _))))

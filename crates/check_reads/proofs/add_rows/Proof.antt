@@ -8,10 +8,10 @@ use Rattle.check_reads.proofs.add_rows.Tie as tie
 abbrev step : List ℕ → ℕ → ℕ → ℕ → Bool
 step rows names j i = bit names i && bit (get_or rows i 0) j
 
-abbrev invariant-loop : tie.invariant-loop
+abbrev invariant-loop : tie.invariant-loop-i
 invariant-loop rows names n set₀ i₀ set i = Gathered 64 (λ j. bit names j) (step rows names) n set i
 
-abbrev decreases-loop : tie.decreases-loop
+abbrev decreases-loop : tie.decreases-loop-i
 decreases-loop rows names n set₀ i₀ set i = n - i
 
 pub add_rows_spec : {M : Type 1} → statement M
@@ -26,5 +26,5 @@ add_rows_spec =
     (λ c κs. omega arith)
     (λ c. omega arith)
     (λ c. omega arith)
-    (λ c. turn c.before.before.before.loop.invariant (omega arith) (λ j b. c.add_row.ensures j))
-    (λ c. end c.before.loop.invariant (omega arith)))
+    (λ c. turn c.before.before.before.loop-i.invariant (omega arith) (λ j b. c.add_row-set.ensures j))
+    (λ c. end c.before.loop-i.invariant (omega arith)))

@@ -8,5 +8,5 @@ add_writer_spec =
     tie.close
     (tie.spec
     (λ c κs. search rules)
-    (λ c h. rw (le-leb 2 _ c.before.if1.true) (c.insert.ensures h))
-    (λ c h. rw (lt-leb 2 _ c.if1.false) (sym (or-false _))))
+    (λ c h. rw (le-leb 2 _ c.before.if-v-ge-IMMEDIATE.true) (c.insert.ensures h))
+    (λ c h. rw (lt-leb 2 _ c.if-v-ge-IMMEDIATE.false) (sym (or-false _))))

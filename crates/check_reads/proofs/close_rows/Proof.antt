@@ -4,10 +4,10 @@ use Rattle.check_reads.proofs.Passing.{Closing, close_none, close_one, close_end
 use Rattle.check_reads.proofs.close_rows.Statement.{statement}
 use Rattle.check_reads.proofs.close_rows.Tie as tie
 
-abbrev invariant-loop : tie.invariant-loop
+abbrev invariant-loop : tie.invariant-loop-k
 invariant-loop rows₀ n k₀ rows k = Closing rows₀ rows n k
 
-abbrev decreases-loop : tie.decreases-loop
+abbrev decreases-loop : tie.decreases-loop-k
 decreases-loop rows₀ n k₀ rows k = n - k
 
 pub close_rows_spec : {M : Type 1} → statement M
@@ -20,6 +20,6 @@ close_rows_spec =
     (λ c κs. omega arith)
     (λ c. omega arith)
     (λ c. omega arith)
-    (λ c. close_one c.before.before.before.before.before.loop.invariant (omega arith) c.before.before.pass-through.ensures c.before.before.pass-through.auto.0)
-    (λ c. c.before.loop.invariant.long)
-    (λ c. close_end c.before.loop.invariant (omega arith)))
+    (λ c. close_one c.before.before.before.before.before.loop-k.invariant (omega arith) c.before.before.pass_through.ensures c.before.before.pass_through.auto.rows)
+    (λ c. c.before.loop-k.invariant.long)
+    (λ c. close_end c.before.loop-k.invariant (omega arith)))

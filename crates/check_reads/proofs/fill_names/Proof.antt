@@ -10,10 +10,10 @@ use Rattle.check_reads.proofs.fill_names.Tie as tie
 abbrev stands : List ℕ → ℕ → ℕ → ℕ → ℕ → Type 0
 stands d ev n e v = Gathers n v (named_on d ev n e)
 
-abbrev invariant-loop : tie.invariant-loop
+abbrev invariant-loop : tie.invariant-loop-e
 invariant-loop d ev n rows named₀ e₀ named e = Filled (stands d ev n) ev named₀ named e
 
-abbrev decreases-loop : tie.decreases-loop
+abbrev decreases-loop : tie.decreases-loop-e
 decreases-loop d ev n rows named₀ e₀ named e = ev - e
 
 pub fill_names_spec : {M : Type 1} → statement M
@@ -25,7 +25,7 @@ fill_names_spec =
     (λ c. fill_none _ _ _)
     (λ c κs.
     let p = c.before.before.before.before.before.requires in
-    (p.0, omega arith, p.4, p.5 c.before.loop.e (omega arith)))
+    (p.0, omega arith, p.4, p.5 c.before.loop-e.e (omega arith)))
     (λ c κs. omega arith)
     (λ c. omega arith)
     (λ c. omega arith)
@@ -33,7 +33,7 @@ fill_names_spec =
     (λ c. omega arith)
     (λ c.
     let p = c.before.before.before.before.before.before.before.requires in
-    fill_one c.before.before.before.loop.invariant (omega arith) (omega arith)
-    (named_is _ _ _ _ c.before.before.before.before.before.before.before.args.rows.now _ _ p.4 p.6 c.before.handler-names.ensures c.add-rows.ensures))
-    (λ c. c.before.loop.invariant.long)
-    (λ c. fill_end c.before.loop.invariant (omega arith)))
+    fill_one c.before.before.before.loop-e.invariant (omega arith) (omega arith)
+    (named_is _ _ _ _ c.before.before.before.before.before.before.before.args.rows.now _ _ p.4 p.6 c.before.handler_names.ensures c.add_rows.ensures))
+    (λ c. c.before.loop-e.invariant.long)
+    (λ c. fill_end c.before.loop-e.invariant (omega arith)))

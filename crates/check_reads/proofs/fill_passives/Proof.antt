@@ -16,10 +16,10 @@ one_row : (d : List ℕ) (ev n i v set : ℕ) → n ≤ 64 → v ≡ entry_of d 
 unfolding passive_on names_on
 one_row d ev n i v set few q g j b = rw (← q) (g j (omega arith))
 
-abbrev invariant-loop : tie.invariant-loop
+abbrev invariant-loop : tie.invariant-loop-i
 invariant-loop d ev n rows₀ i₀ rows i = Filled (row d ev n) n rows₀ rows i
 
-abbrev decreases-loop : tie.decreases-loop
+abbrev decreases-loop : tie.decreases-loop-i
 decreases-loop d ev n rows₀ i₀ rows i = n - i
 
 pub fill_passives_spec : {M : Type 1} → statement M
@@ -31,13 +31,13 @@ fill_passives_spec =
     (λ c. fill_none _ _ _)
     (λ c κs. omega arith)
     (λ c κs.
-    let b = c.before.before.before.before.before.requires.4 c.before.before.loop.i (omega arith) in
-    let h = rw (← c.entry_of_law.ensures) at b in
+    let b = c.before.before.before.before.before.requires.4 c.before.before.loop-i.i (omega arith) in
+    let h = rw (← c.entry_of.ensures) at b in
     omega arith)
     (λ c. omega arith)
     (λ c. omega arith)
     (λ c. omega arith)
     (λ c. omega arith)
-    (λ c. fill_one c.before.before.before.loop.invariant (omega arith) (omega arith) (one_row _ _ _ _ _ _ (omega arith) c.before.entry_of_law.ensures c.passive-names.ensures))
-    (λ c. c.before.loop.invariant.long)
-    (λ c. fill_end c.before.loop.invariant (omega arith)))
+    (λ c. fill_one c.before.before.before.loop-i.invariant (omega arith) (omega arith) (one_row _ _ _ _ _ _ (omega arith) c.before.entry_of.ensures c.passive_names.ensures))
+    (λ c. c.before.loop-i.invariant.long)
+    (λ c. fill_end c.before.loop-i.invariant (omega arith)))

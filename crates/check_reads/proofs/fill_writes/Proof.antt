@@ -9,10 +9,10 @@ use Rattle.check_reads.proofs.fill_writes.Tie as tie
 abbrev stands : List ℕ → ℕ → ℕ → ℕ → Type 0
 stands d n e v = Gathers n v (writes_on d e)
 
-abbrev invariant-loop : tie.invariant-loop
+abbrev invariant-loop : tie.invariant-loop-e
 invariant-loop d ev n writes₀ e₀ writes e = Filled (stands d n) ev writes₀ writes e
 
-abbrev decreases-loop : tie.decreases-loop
+abbrev decreases-loop : tie.decreases-loop-e
 decreases-loop d ev n writes₀ e₀ writes e = ev - e
 
 pub fill_writes_spec : {M : Type 1} → statement M
@@ -27,6 +27,6 @@ fill_writes_spec =
     (λ c. omega arith)
     (λ c. omega arith)
     (λ c. omega arith)
-    (λ c. fill_one c.before.before.loop.invariant (omega arith) (omega arith) c.writes-of.ensures)
-    (λ c. c.before.loop.invariant.long)
-    (λ c. fill_end c.before.loop.invariant (omega arith)))
+    (λ c. fill_one c.before.before.loop-e.invariant (omega arith) (omega arith) c.writes_of.ensures)
+    (λ c. c.before.loop-e.invariant.long)
+    (λ c. fill_end c.before.loop-e.invariant (omega arith)))

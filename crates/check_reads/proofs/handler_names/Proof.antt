@@ -17,10 +17,10 @@ handler : (d : List ℕ) (e i v set next : ℕ) → v ≡ entry_of d e i
 unfolding writes_on names_on
 handler d e i v set next q f j h = rw (← q) (f j h)
 
-abbrev invariant-loop : tie.invariant-loop
+abbrev invariant-loop : tie.invariant-loop-i
 invariant-loop d e n set₀ i₀ set i = Gathered 64 (λ j. false) (step d e) n set i
 
-abbrev decreases-loop : tie.decreases-loop
+abbrev decreases-loop : tie.decreases-loop-i
 decreases-loop d e n set₀ i₀ set i = n - i
 
 pub handler_names_spec : {M : Type 1} → statement M
@@ -33,10 +33,10 @@ handler_names_spec =
     (λ c. begin 64 _ _)
     (λ c κs. omega arith)
     (λ c κs.
-    let b = c.before.before.before.before.requires.3 c.before.before.loop.i (omega arith) in
-    let h = rw (← c.entry_of_law.ensures) at b in
+    let b = c.before.before.before.before.requires.3 c.before.before.loop-i.i (omega arith) in
+    let h = rw (← c.entry_of.ensures) at b in
     omega arith)
     (λ c. omega arith)
     (λ c. omega arith)
-    (λ c. turn c.before.before.before.loop.invariant (omega arith) (handler _ _ _ _ _ _ c.before.entry_of_law.ensures c.add-names.ensures))
-    (λ c. end c.before.loop.invariant (omega arith)))
+    (λ c. turn c.before.before.before.loop-i.invariant (omega arith) (handler _ _ _ _ _ _ c.before.entry_of.ensures c.add_names-set.ensures))
+    (λ c. end c.before.loop-i.invariant (omega arith)))

@@ -16,10 +16,10 @@ node : (d : List ℕ) (i start k x set next : ℕ) → x ≡ moved d i (get_or d
     → (j : ℕ) → j < 64 → bit next j ≡ bit set j || step d i start j k
 node d i start k x set next q e j h = rw (used_at d i (start + k), ← q) (e j h)
 
-abbrev invariant-loop : tie.invariant-loop
+abbrev invariant-loop : tie.invariant-loop-k
 invariant-loop d i v start count set₀ k₀ set k = Gathered 64 (λ j. false) (step d i start) count set k
 
-abbrev decreases-loop : tie.decreases-loop
+abbrev decreases-loop : tie.decreases-loop-k
 decreases-loop d i v start count set₀ k₀ set k = count - k
 
 pub names_in_spec : {M : Type 1} → statement M
@@ -37,5 +37,5 @@ names_in_spec =
     (λ c κs. omega arith)
     (λ c. omega arith)
     (λ c. omega arith)
-    (λ c. turn c.before.before.before.before.loop.invariant (omega arith) (node _ _ _ _ _ _ _ c.before.moved-node.ensures c.add-name.ensures))
-    (λ c. end c.before.loop.invariant (omega arith)))
+    (λ c. turn c.before.before.before.before.loop-k.invariant (omega arith) (node _ _ _ _ _ _ _ c.before.moved_node.ensures c.add_name-set.ensures))
+    (λ c. end c.before.loop-k.invariant (omega arith)))

@@ -9,5 +9,5 @@ passive_names_spec =
     tie.close
     (tie.spec
     (λ c κs. search rules)
-    (λ c j b. rw (eq-eqb _ 1 c.before.if1.true) (c.names_in.ensures j b))
-    (λ c j b. rw (ne_eqb _ 1 c.if1.false) (bit_none j)))
+    (λ c j b. rw (eq-eqb _ 1 c.before.if-v-eq-PASSIVE.true) (c.names_in.ensures j b))
+    (λ c j b. rw (ne_eqb _ 1 c.if-v-eq-PASSIVE.false) (bit_none j)))

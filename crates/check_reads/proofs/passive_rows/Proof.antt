@@ -10,4 +10,4 @@ passive_rows_spec =
     (λ c κs. search rules)
     (λ c κs. search rules)
     (λ c. search rules)
-    (λ c. c.before.before.close-rows.ensures _ c.before.before.before.before.before.before.fill-passives.ensures))
+    (λ c. c.before.before.close_rows.ensures _ c.before.before.before.before.before.before.fill_passives.ensures))

@@ -16,10 +16,10 @@ writer : (d : List ℕ) (e i v set next : ℕ) → v ≡ entry_of d e i → ((j 
 unfolding writes_on
 writer d e i v set next q f j h = rw (← q) (f j)
 
-abbrev invariant-loop : tie.invariant-loop
+abbrev invariant-loop : tie.invariant-loop-i
 invariant-loop d e n set₀ i₀ set i = Gathered 64 (λ j. false) (step d e) n set i
 
-abbrev decreases-loop : tie.decreases-loop
+abbrev decreases-loop : tie.decreases-loop-i
 decreases-loop d e n set₀ i₀ set i = n - i
 
 pub writes_of_spec : {M : Type 1} → statement M
@@ -33,5 +33,5 @@ writes_of_spec =
     (λ c κs. omega arith)
     (λ c. omega arith)
     (λ c. omega arith)
-    (λ c. turn c.before.before.before.loop.invariant (omega arith) (writer _ _ _ _ _ _ c.before.entry_of_law.ensures c.add-writer.ensures))
-    (λ c j b. end c.before.loop.invariant (omega arith) j (omega arith) ∙ any_own _ (writes_on _ _) j b))
+    (λ c. turn c.before.before.before.loop-i.invariant (omega arith) (writer _ _ _ _ _ _ c.before.entry_of.ensures c.add_writer-set.ensures))
+    (λ c j b. end c.before.loop-i.invariant (omega arith) j (omega arith) ∙ any_own _ (writes_on _ _) j b))
