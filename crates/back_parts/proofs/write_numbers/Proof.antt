@@ -6,10 +6,10 @@ use Rattle.back_parts.proofs.PartLaws.{number_wrote, number_room}
 use Rattle.back_parts.proofs.write_numbers.Statement.{statement}
 use Rattle.back_parts.proofs.write_numbers.Tie as tie
 
-abbrev invariant-loop : tie.invariant-loop
+abbrev invariant-loop : tie.invariant-loop-j
 invariant-loop d from count t₀ k next₀ j₀ t next j = Turn (draft_number d from) count t₀ k j t next
 
-abbrev decreases-loop : tie.decreases-loop
+abbrev decreases-loop : tie.decreases-loop-j
 decreases-loop d from count t₀ k next₀ j₀ t next j = count - j
 
 pub write_numbers_spec : {M : Type 1} → statement M
@@ -24,13 +24,13 @@ write_numbers_spec =
     (λ c. omega arith)
     (λ c. search rules)
     (λ c κs.
-    let r = number_room _ _ _ (turn_room c.before.before.before.loop.invariant c.before.before.loop-test.true) in
+    let r = number_room _ _ _ (turn_room c.before.before.before.loop-j.invariant c.before.before.loop-j-test.true) in
     omega arith)
     (λ c.
-    let r = number_room _ _ _ (turn_room c.before.before.before.before.before.before.loop.invariant c.before.before.before.before.before.loop-test.true) in
+    let r = number_room _ _ _ (turn_room c.before.before.before.before.before.before.loop-j.invariant c.before.before.before.before.before.loop-j-test.true) in
     omega arith)
     (λ c. omega arith)
     (λ c. omega arith)
-    (λ c. turn c.before.before.before.before.before.before.loop.invariant c.before.before.before.before.before.loop-test.true (number_wrote _ _ _ c.before.before.put_word.ensures))
-    (λ c. turn_long c.before.loop.invariant)
-    (λ c. end c.before.loop.invariant c.loop-test.false))
+    (λ c. turn c.before.before.before.before.before.before.loop-j.invariant c.before.before.before.before.before.loop-j-test.true (number_wrote _ _ _ c.before.before.put_word.ensures))
+    (λ c. turn_long c.before.loop-j.invariant)
+    (λ c. end c.before.loop-j.invariant c.loop-j-test.false))

@@ -5,11 +5,11 @@ use Rattle.back_parts.proofs.PartLaws.{wrote_four}
 use Rattle.back_parts.proofs.write_record.Statement.{statement}
 use Rattle.back_parts.proofs.write_record.Tie as tie
 
-cast_put_word_4 : tie.Need-overflow-cast-put-word-4
+cast_put_word_4 : tie.Need-overflow_cast-count_members
 cast_put_word_4 c =
     let at_put_word_arg2 = c.before.before.before.before.before.before.before.before.before in
     let at_entry_lem = at_put_word_arg2.before.before.before.before.before.before.before.before in
-    omega (arith, members_fit _ _ _ _ c.count-members.ensures at_entry_lem.requires.0.2)
+    omega (arith, members_fit _ _ _ _ c.count_members.ensures at_entry_lem.requires.0.2)
 
 returns : tie.Need-returns
 returns c =

@@ -8,23 +8,23 @@ write_zeros_requires : tie.Need-write_zeros-requires
 write_zeros_requires c κs =
     let at_entry_lem = c.before.before.before.before.before.before.before in
     let a = at_entry_lem.args in
-    omega (arith, c.before.before.before.write-numbers.ensures.next, length_numbers a.draft.now 4256 a.behaviours)
+    omega (arith, c.before.before.before.write_numbers-seen.ensures.next, length_numbers a.draft.now 4256 a.behaviours)
 
 write_zeros_requires_2 : tie.Need-write_zeros-requires-2
 write_zeros_requires_2 c κs =
     let at_slice_known2 = c.before.before.before.before.before.before.before.before.before in
     let at_entry_lem = at_slice_known2.before.before.before.before.before.before in
     let a = at_entry_lem.args in
-    omega (arith, c.before.before.before.write-numbers2.ensures.next, length_numbers a.draft.now 4320 a.events)
+    omega (arith, c.before.before.before.write_numbers-sent.ensures.next, length_numbers a.draft.now 4320 a.events)
 
 returns : tie.Need-returns
 returns c =
     let at_write_numbers2 = c.before.before.before.before.before.before in
     let at_write_numbers = at_write_numbers2.before.before.before.before.before.before.before.before in
     let pre = at_write_numbers.before.before.before.before.requires in
-    rights_wrote _ _ _ pre.1 pre.2 at_write_numbers.write-numbers.ensures
-    at_write_numbers2.before.before.before.before.write-zeros.ensures
-    at_write_numbers2.write-numbers2.ensures c.before.before.write-zeros2.ensures
+    rights_wrote _ _ _ pre.1 pre.2 at_write_numbers.write_numbers-seen.ensures
+    at_write_numbers2.before.before.before.before.write_zeros.ensures
+    at_write_numbers2.write_numbers-sent.ensures c.before.before.write_zeros-2.ensures
 
 pub write_rights_spec : {M : Type 1} → statement M
 write_rights_spec =
