@@ -24,7 +24,7 @@ fn put_result(v: &[u8], buffer: &mut [u8]) -> u64
     if buffer.len() < v.len() {
         return answers::SHORT_JOIN;
     }
-    bytes::copy(v, buffer);
+    buffer[..v.len()].copy_from_slice(v);
     answers::VALUE + (v.len() as u64)
 }
 

@@ -121,6 +121,6 @@ pub fn preview_at(table: &[u8], round: &[u8], event: u32, behaviour: u32, player
         return answers::FOREIGN;
     }
     let mut copy = [0u8; format_layout::round::BYTES];
-    bytes::copy(&round[0..format_layout::round::BYTES], &mut copy);
+    copy.copy_from_slice(&round[0..format_layout::round::BYTES]);
     preview_copy(&*table, &mut copy, event, behaviour, player)
 }

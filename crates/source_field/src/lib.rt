@@ -20,7 +20,7 @@ pub enum Read {
 
 // Where a reading stands: the place in the text, the end of the bytes that are written; how many of the names' places
 // are in order; the cells of the row whose handler this is, else 0; and how many formulas may still nest here.
-#[derive(Drop)]
+#[derive(Clone, Copy)]
 pub struct Cursor {
     pub at: usize,
     pub end: usize,

@@ -16,7 +16,7 @@ use text_marks::{byte_at, is_digit};
 
 // A token with its place and the place behind it: a number as far as 2 ^ 31 + 1 between them, a name, a sign with its
 // number between them. The end of the text and a stray byte have their own place behind them.
-#[derive(Drop)]
+#[derive(Clone, Copy)]
 pub enum Token {
     Number(usize, u64, usize),
     Name(usize, usize),
