@@ -9,9 +9,9 @@ ghost use Rattle.spec_language.specs.Limits.{behaviour_limit};
 
 use desk_format::tags;
 use format_layout::{round, table};
-use libc::{STDIN_FILENO, STDOUT_FILENO};
 use sheet_field::{Field, sizes};
 use spec_language::answers;
+use std::io::{Print, Read};
 
 // How long a line may be: one of a refusal or a step, and one of a show.
 const LINE_BYTES: usize = 64;
@@ -20,32 +20,55 @@ const BOARD_LINE_BYTES: usize = 2048;
 
 const BEHAVIOURS: u32 = spec_language::limits::BEHAVIOURS as u32;
 
-fn refuse(n: u64) {
+// The most bytes that a field's value has, and one more.
+const VALUE_BYTES: usize = 65536;
+
+// A write that fails is passed over: nothing else can be told.
+fn put_line(rt: &HostRuntime, line: &[u8]) {
+    let _written = rt.write_all(line).is_ok();
+}
+
+// Reads until buf is full, the input ends or a read fails. How many bytes it put at the start of buf.
+fn read_full(rt: &HostRuntime, buf: &mut [u8]) -> usize
+    ensures { IsPrefixLen result buf.new }
+{
+    let mut done = 0;
+    while done < buf.len() {
+        let n = rt.stdin().read(&mut buf[done..]).unwrap_or(0);
+        if n == 0 {
+            break;
+        }
+        done += n;
+    }
+    done
+}
+
+fn refuse(rt: &HostRuntime, n: u64) {
     let mut line = [0u8; LINE_BYTES];
     let size = desk_format::refusal(n, &mut line);
-    io::write_all(STDOUT_FILENO, &line[..size]);
+    put_line(rt, &line[..size]);
 }
 
 // One step.
-fn step_once(table: &[u8], round: &mut [u8]) {
+fn step_once(rt: &HostRuntime, table: &[u8], round: &mut [u8]) {
     let mut line = [0u8; LINE_BYTES];
     let size = desk_format::step_line(engine::step(table, round), &mut line);
-    io::write_all(STDOUT_FILENO, &line[..size]);
+    put_line(rt, &line[..size]);
 }
 
-fn steps(table: &[u8], round: &mut [u8], count: u32) {
+fn steps(rt: &HostRuntime, table: &[u8], round: &mut [u8], count: u32) {
     let mut i = 0;
     while i < count {
-        step_once(table, round);
+        step_once(rt, table, round);
         i += 1;
     }
 }
 
 // "the desk program's arrivals and readings are the host's": player 0
-fn offer(table: &[u8], round: &mut [u8], event: u32) {
+fn offer(rt: &HostRuntime, table: &[u8], round: &mut [u8], event: u32) {
     let r = engine::arrive(table, round, event, 0);
     if r != 0 {
-        refuse(r as u64);
+        refuse(rt, r as u64);
     }
 }
 
@@ -68,24 +91,24 @@ fn collect(table: &[u8], round: &[u8], values: &mut [u32]) -> usize
 }
 
 // "During copy-back a show prints the one line R 19, with or without behaviours."
-fn print_board(table: &[u8], round: &[u8]) {
+fn print_board(rt: &HostRuntime, table: &[u8], round: &[u8]) {
     if run_board::copy_back_at(table, round) {
-        refuse(answers::SETTLING);
+        refuse(rt, answers::SETTLING);
         return;
     }
     let mut values = [0u32; spec_language::limits::BEHAVIOURS];
     let count = collect(table, round, &mut values);
     let mut line = [0u8; BOARD_LINE_BYTES];
     let size = desk_format::board_line(&values[..count], &mut line);
-    io::write_all(STDOUT_FILENO, &line[..size]);
+    put_line(rt, &line[..size]);
 }
 
 // A sheet. "An accepted sheet begins a fresh round": a refused one leaves the earlier round as it was. 2 where it is
 // accepted, else 1.
-fn load(sheet: &[u8], table: &mut [u8], round: &mut [u8]) -> u8 {
+fn load(rt: &HostRuntime, sheet: &[u8], table: &mut [u8], round: &mut [u8]) -> u8 {
     let r = engine::compile(sheet, &[], table);
     if r != 0 {
-        refuse(r as u64);
+        refuse(rt, r as u64);
         return 1;
     }
     engine::start(table, round);
@@ -93,64 +116,71 @@ fn load(sheet: &[u8], table: &mut [u8], round: &mut [u8]) -> u8 {
 }
 
 // What a field asks for that is not refused: 1, or 2 where a sheet was accepted.
-fn act(tag: u8, value: &[u8], table: &mut [u8], round: &mut [u8]) -> u8 {
+fn act(rt: &HostRuntime, tag: u8, value: &[u8], table: &mut [u8], round: &mut [u8]) -> u8 {
     if tag == tags::SHEET {
-        return load(value, table, round);
+        return load(rt, value, table, round);
     }
     if tag == tags::ARRIVAL {
-        offer(table, round, desk_format::number_in(value));
+        offer(rt, table, round, desk_format::number_in(value));
         return 1;
     }
     if tag == tags::STEPS {
-        steps(table, round, desk_format::number_in(value));
+        steps(rt, table, round, desk_format::number_in(value));
         return 1;
     }
-    print_board(table, round);
+    print_board(rt, table, round);
     1
 }
 
 // A field refused: 0 where the program ends, 1 where it goes on.
-fn goes_on(verdict: u8) -> u8 {
-    refuse(verdict as u64);
+fn goes_on(rt: &HostRuntime, verdict: u8) -> u8 {
+    refuse(rt, verdict as u64);
     if desk_format::ends(verdict) { 0 } else { 1 }
 }
 
 // The field whose header is given: its value is read and acted on.
-fn field(tag: u8, size: usize, table: &mut [u8], round: &mut [u8], ready: bool) -> u8
+fn field(
+    rt: &HostRuntime,
+    tag: u8,
+    size: usize,
+    table: &mut [u8],
+    round: &mut [u8],
+    ready: bool,
+) -> u8
     requires { size < half_values }
 {
-    let mut space = io::large_buffer();
-    let got = io::read_full(STDIN_FILENO, &mut space[..size]);
+    let mut space = [0u8; VALUE_BYTES];
+    let got = read_full(rt, &mut space[..size]);
     let verdict = desk_format::judge_value(tag, size, got, ready);
     if verdict != 0 {
-        return goes_on(verdict);
+        return goes_on(rt, verdict);
     }
-    act(tag, &space[..size], table, round)
+    act(rt, tag, &space[..size], table, round)
 }
 
 // One field of the input: 0 where the program ends, 1 where it goes on, 2 where a sheet was accepted.
-fn turn(table: &mut [u8], round: &mut [u8], ready: bool) -> u8 {
+fn turn(rt: &HostRuntime, table: &mut [u8], round: &mut [u8], ready: bool) -> u8 {
     let mut head = [0u8; sizes::HEADER];
-    let got = io::read_full(STDIN_FILENO, &mut head);
+    let got = read_full(rt, &mut head);
     if got == 0 {
         return 0;
     }
     let a = desk_format::header(&head[..got]);
     let Field::Value(tag, size) = a else {
-        return goes_on(sheet_field::refusal_in(a));
+        return goes_on(rt, sheet_field::refusal_in(a));
     };
-    field(tag, size, table, round, ready)
+    field(rt, tag, size, table, round, ready)
 }
 
 // Field after field. A proved loop has to end, and nothing says that the input does: it counts its turns down, from a
 // number that no run uses up.
-fn main() {
+fn main(rt: HostRuntime) {
     let mut table = [0u8; table::BYTES];
     let mut round = [0u8; round::BYTES];
     let mut ready = false;
     let mut turns = u64::MAX;
     while turns > 0 {
-        let outcome = turn(&mut table, &mut round, ready);
+        let outcome = turn(&rt, &mut table, &mut round, ready);
         if outcome == 0 {
             return;
         }
