@@ -2,4 +2,3 @@
 // commute there. They stand in specs/ and proofs/.
 
 #![tactic(auto)]
-
