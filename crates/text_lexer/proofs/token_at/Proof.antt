@@ -4,21 +4,21 @@ use Rattle.text_lexer.proofs.Laws.{token_word, token_number_law}
 use Rattle.text_lexer.proofs.token_at.Statement.{statement}
 use Rattle.text_lexer.proofs.token_at.Tie as tie
 
-add_number : tie.Need-overflow-add-t7
-add_number c = omega (arith, c.before.digits-at.ensures.1.0)
+add_number : tie.Need-overflow_add-result
+add_number c = omega (arith, c.before.digits_at-n.ensures.1.0)
 
-returns : tie.Need-returns
+returns : tie.Need-returns-then-is_digit
 returns c =
     let at_digits = c.before.before in
     let at_digit = at_digits.before.before in
     let at_entry_lem = at_digit.before.before.before in
-    token_number_law _ at_entry_lem.args.at _ _ at_entry_lem.requires.0 (sym at_digit.is_digit.ensures ∙ at_digits.before.if1.true)
-    at_digits.digits-at.ensures.0 at_digits.digits-at.ensures.1.1
+    token_number_law _ at_entry_lem.args.at _ _ at_entry_lem.requires.0 (sym at_digit.is_digit.ensures ∙ at_digits.before.if-is_digit.true)
+    at_digits.digits_at-n.ensures.0 at_digits.digits_at-n.ensures.1.1
 
-returns_2 : tie.Need-returns-2
+returns_2 : tie.Need-returns
 returns_2 c =
     let at_digit = c.before.before in
-    token_word _ at_digit.before.before.before.args.at _ (sym at_digit.is_digit.ensures ∙ c.before.if1.false) c.word_at.ensures
+    token_word _ at_digit.before.before.before.args.at _ (sym at_digit.is_digit.ensures ∙ c.before.if-is_digit.false) c.word_at.ensures
 
 pub token_at_spec : {M : Type 1} → statement M
 token_at_spec =
