@@ -12,12 +12,12 @@ read_viewer_spec =
     (λ c. search rules)
     (λ c. search rules)
     (λ c κs. search rules)
-    (λ c. (viewer_refused _ _ _ _ _ c.before.before.before.field_answer-a.ensures.0 c.before.in_default.field-0.1 c.refusal_in.ensures, tt))
+    (λ c. (viewer_refused _ _ _ _ _ c.field_answer-a.ensures.0 c.before.in_default.is c.refusal_in.ensures, tt))
     (λ c κs. search rules)
     (λ c κs. search rules)
     (λ c. search rules)
     (λ c.
     let f = c.before.before.before.before.field_value in (
-      viewer_taken _ _ _ _ _ c.before.before.before.before.before.before.before.field_answer-a.ensures.0 c.before.before.before.before.before.in-Value.field-0.1 f.ensures.0 c.before.before.take_viewer.ensures.0,
+      viewer_taken _ _ _ _ _ c.field_answer-a.ensures.0 c.before.before.before.before.before.in-Value.is f.ensures.0 c.before.before.take_viewer.ensures.0,
       c.before.before.take_viewer.ensures.1,
     )))
