@@ -13,24 +13,24 @@ use Rattle.back_event.proofs.compile_event.Statement.{statement}
 use Rattle.back_event.proofs.compile_event.Tie as tie
 
 -- where the order is found and the members are counted
-module _ (c : tie.After-count-members) where
-  abbrev complete_at : tie.After-found
+module _ (c : tie.After-count_members) where
+  abbrev complete_at : tie.In-Complete-2
   complete_at = c.before.before
 
   abbrev entry : tie.Start
   entry = complete_at.before.before.before.before.before.before.before
 
   abbrev order : List ℕ
-  order = complete_at.before.before.before.check-dependence.last.1.1.1.0
+  order = complete_at.before.before.before.check_dependence-found.last.1.1.1.0
 
   abbrev count : ℕ
-  count = complete_at.found.given.0.0
+  count = complete_at.in-Complete.count.0.0
 
   found : (is_ordered entry.args.draft.now entry.args.event entry.args.behaviours ≡ true)
       × OrderHolds order count entry.args.behaviours (order_under entry.args.draft.now entry.args.event entry.args.behaviours)
   found =
       found_all entry.args.draft.now entry.args.event entry.args.behaviours _ _
-      complete_at.before.before.before.check-dependence.ensures _ complete_at.found.given.1
+      complete_at.before.before.before.check_dependence-found.ensures _ complete_at.in-Complete.count.1
 
   its_code : event_words entry.args.draft.now entry.args.event entry.args.behaviours (take count order)
       ≡ code_of entry.args.draft.now entry.args.behaviours entry.args.event
@@ -40,21 +40,21 @@ module _ (c : tie.After-count-members) where
       (event_words entry.args.draft.now entry.args.event entry.args.behaviours (take count order))
   has_room = room_as its_code entry.pre.1
 
-  behind : entry.args.place + 2 * (2 + c.count-members.result)
+  behind : entry.args.place + 2 * (2 + c.count_members.result)
       ≡ entry.args.place + length (masked_words entry.args.draft.now entry.args.event 768 entry.args.behaviours)
-  behind = behind_copy _ _ _ entry.args.place _ c.count-members.ensures
+  behind = behind_copy _ _ _ entry.args.place _ c.count_members.ensures
 
-  few_members : c.count-members.result ≤ 64
-  few_members = members_fit _ _ _ _ c.count-members.ensures entry.pre.0.0.few
+  few_members : c.count_members.result ≤ 64
+  few_members = members_fit _ _ _ _ c.count_members.ensures entry.pre.0.0.few
 
 -- back from each phase
-abbrev counted_at : tie.After-phase-one → tie.After-count-members
+abbrev counted_at : tie.After-phase_one-second → tie.After-count_members
 counted_at c = c.before.before.before
 
-abbrev first_at : tie.After-phase-two → tie.After-phase-one
+abbrev first_at : tie.After-phase_two-last → tie.After-phase_one-second
 first_at c = c.before.before.before.before.before
 
-check_dependence_requires : tie.Need-check-dependence-requires
+check_dependence_requires : tie.Need-check_dependence-found-requires
 check_dependence_requires c κs =
     let at_entry_lem = c.before.before.before in (
       at_entry_lem.requires.0.0.long,
@@ -64,55 +64,55 @@ check_dependence_requires c κs =
       at_entry_lem.requires.0.0.inside,
     )
 
-returns : tie.Need-returns
+returns : tie.Need-returns-in_default
 returns c =
     let checked = c.before.before.before in
-    let b = checked.before.before.before.before.args in
-    wrote_as (code_none _ _ _ (found_none b.draft.now b.event b.behaviours _ _ checked.check-dependence.ensures
-    c.enum_told.given.1)) (wrote_none _ _)
+    let b = checked.before.before.before.args in
+    wrote_as (code_none _ _ _ (found_none b.draft.now b.event b.behaviours _ _ checked.check_dependence-found.ensures
+    c.in_default.is.1)) (wrote_none _ _)
 
-phase_one_requires : tie.Need-phase-one-requires
+phase_one_requires : tie.Need-phase_one-second-requires
 phase_one_requires c κs =
     let counted = c.before.before in (
       ((entry counted).requires.0.0, (found counted).1.listed),
       room_first_phase _ _ _ _ (has_room counted) (behind counted),
     )
 
-phase_two_requires : tie.Need-phase-two-requires
+phase_two_requires : tie.Need-phase_two-last-requires
 phase_two_requires c κs =
     let first = c.before.before.before.before in
     let counted = counted_at first in (
       ((entry counted).pre.0.0, (found counted).1.listed),
-      room_second_phase _ _ _ _ (has_room counted) (behind counted) first.phase_one_law.ensures,
+      room_second_phase _ _ _ _ (has_room counted) (behind counted) first.phase_one-second.ensures,
     )
 
-emit_masked_requires : tie.Need-emit-masked-requires
+emit_masked_requires : tie.Need-emit_masked-requires
 emit_masked_requires c κs =
     let second = c.before.before.before in
     let counted = counted_at (first_at second) in (
       ((entry counted).pre.0.0.long, (entry counted).pre.0.0.few, omega arith),
-      room_copy _ _ _ _ (has_room counted) (behind counted) (first_at second).phase_one_law.ensures
-          second.phase_two.ensures,
+      room_copy _ _ _ _ (has_room counted) (behind counted) (first_at second).phase_one-second.ensures
+          second.phase_two-last.ensures,
     )
 
-emit_masked_requires_2 : tie.Need-emit-masked-requires-2
+emit_masked_requires_2 : tie.Need-emit_masked-requires-2
 emit_masked_requires_2 c κs =
     let copied = c.before.before.before in
     let second = copied.before.before.before.before in
     let counted = counted_at (first_at second) in (
       ((entry counted).pre.0.0.long, (entry counted).pre.0.0.few, omega arith),
-      room_restore _ _ _ _ (has_room counted) (behind counted) (first_at second).phase_one_law.ensures
-          second.phase_two.ensures copied.emit-masked.ensures,
+      room_restore _ _ _ _ (has_room counted) (behind counted) (first_at second).phase_one-second.ensures
+          second.phase_two-last.ensures copied.emit_masked.ensures,
     )
 
-returns_2 : tie.Need-returns-2
+returns_2 : tie.Need-returns
 returns_2 c =
     let copied = c.before.before.before.before.before.before in
     let second = copied.before.before.before.before in
     let counted = counted_at (first_at second) in
     wrote_as (its_code counted) (steps_wrote _ _ _ _ (has_room counted) (behind counted)
-    (first_at second).phase_one_law.ensures second.phase_two.ensures copied.emit-masked.ensures
-    c.before.before.emit-masked2.ensures)
+    (first_at second).phase_one-second.ensures second.phase_two-last.ensures copied.emit_masked.ensures
+    c.before.before.emit_masked-2.ensures)
 
 pub compile_event_spec : {M : Type 1} → statement M
 compile_event_spec =
