@@ -7,10 +7,10 @@ use Rattle.back_passives.proofs.PassiveLaws.{again_small}
 use Rattle.back_passives.proofs.passives_length.Statement.{statement}
 use Rattle.back_passives.proofs.passives_length.Tie as tie
 
-abbrev invariant-loop : tie.invariant-loop
+abbrev invariant-loop : tie.invariant-loop-i
 invariant-loop d n sum₀ i₀ sum i = Sum (λ j. again_share (entry_of d 0 j)) n 0 i sum
 
-abbrev decreases-loop : tie.decreases-loop
+abbrev decreases-loop : tie.decreases-loop-i
 decreases-loop d n sum₀ i₀ sum i = n - i
 
 pub passives_length_spec : {M : Type 1} → statement M
@@ -22,11 +22,11 @@ passives_length_spec =
     decreases-loop
     (λ c. sum_start)
     (λ c κs. omega arith)
-    (λ c κs. omega (arith, sound_inside c.before.before.before.before.requires c.before.loop-test.true c.entry_of_law.ensures))
-    (λ c. omega (arith, again_small c.before.entry_of_law.result (omega (arith, sound_inside c.before.before.before.before.before.requires c.before.before.loop-test.true c.before.entry_of_law.ensures)), c.passive-length.ensures))
+    (λ c κs. omega (arith, sound_inside c.before.before.before.before.requires c.before.loop-i-test.true c.entry_of.ensures))
+    (λ c. omega (arith, again_small c.before.entry_of.result (omega (arith, sound_inside c.before.before.before.before.before.requires c.before.before.loop-i-test.true c.before.entry_of.ensures)), c.passive_length-sum.ensures))
     (λ c. omega arith)
     (λ c. omega arith)
     (λ c.
-    sum_turn c.before.before.before.loop.invariant c.before.before.loop-test.true (c.passive-length.ensures ∙ ap again_share c.before.entry_of_law.ensures)
-    (omega (arith, again_small c.before.entry_of_law.result (omega (arith, sound_inside c.before.before.before.before.before.requires c.before.before.loop-test.true c.before.entry_of_law.ensures)), c.passive-length.ensures)))
-    (λ c. omega (arith, sum_end c.before.loop.invariant c.loop-test.false)))
+    sum_turn c.before.before.before.loop-i.invariant c.before.before.loop-i-test.true (c.passive_length-sum.ensures ∙ ap again_share c.before.entry_of.ensures)
+    (omega (arith, again_small c.before.entry_of.result (omega (arith, sound_inside c.before.before.before.before.before.requires c.before.before.loop-i-test.true c.before.entry_of.ensures)), c.passive_length-sum.ensures)))
+    (λ c. omega (arith, sum_end c.before.loop-i.invariant c.loop-i-test.false)))

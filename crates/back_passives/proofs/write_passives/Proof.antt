@@ -13,61 +13,61 @@ started : (d : List ℕ) (ev bs : ℕ) {x a m n : ℕ} → a ≡ count_event d 0
 started d ev bs e f g h = rw (← e, ← f, ← g) h
 
 -- where the instructions that work the passives out are counted
-module _ (c : tie.After-passives-length) where
-  abbrev kinds_at : tie.After-write-kinds
+module _ (c : tie.After-passives_length-count) where
+  abbrev kinds_at : tie.After-write_kinds-kinds
   kinds_at = c.before.before.before.before.before.before.before
 
   abbrev entry : tie.Start
   entry = kinds_at.before.before.before.before
 
-write_zeros_requires : tie.Need-write-zeros-requires
+write_zeros_requires : tie.Need-write_zeros-requires
 write_zeros_requires c κs =
     let at_entry_lem = c.before.before.before.before.before.before.before in
     let s = at_entry_lem.requires.0 in
     omega (
       arith,
       s.few,
-      c.before.before.before.write-kinds.ensures.next,
+      c.before.before.before.write_kinds-kinds.ensures.next,
       length_kinds at_entry_lem.args.draft.now at_entry_lem.args.behaviours,
     )
 
-passives_start_requires : tie.Need-passives-start-requires
+passives_start_requires : tie.Need-passives_start-start-requires
 passives_start_requires c κs =
     let counted = c.before.before in
     let b = entry counted in
-    let m = members_fit _ _ _ _ c.before.count-members.ensures b.pre.0.few in
-    omega (arith, counted.passives_length_law.ensures, count_again_small b.args.draft.now b.args.behaviours b.pre.0)
+    let m = members_fit _ _ _ _ c.before.count_members-m.ensures b.pre.0.few in
+    omega (arith, counted.passives_length-count.ensures, count_again_small b.args.draft.now b.args.behaviours b.pre.0)
 
-cast_put_word : tie.Need-overflow-cast-put-word
+cast_put_word : tie.Need-overflow_cast-start
 cast_put_word c =
     let members = c.before.before.before in
     let b = entry members.before in
     omega (
       arith,
-      c.before.passives_start_law.ensures,
-      c.before.before.count-event.ensures,
+      c.before.passives_start-start.ensures,
+      c.before.before.count_event.ensures,
       count_event_small b.args.draft.now b.args.behaviours b.pre.0,
-      start_small b.args.events c.before.before.count-event.result members.count-members.result
-          members.before.passives_length_law.result,
+      start_small b.args.events c.before.before.count_event.result members.count_members-m.result
+          members.before.passives_length-count.result,
     )
 
-cast_put_word_2 : tie.Need-overflow-cast-put-word-2
+cast_put_word_2 : tie.Need-overflow_cast-count
 cast_put_word_2 c =
     let counted = c.before.before.before.before.before.before.before.before in
     let b = entry counted in
-    omega (arith, counted.passives_length_law.ensures, count_again_small b.args.draft.now b.args.behaviours b.pre.0)
+    omega (arith, counted.passives_length-count.ensures, count_again_small b.args.draft.now b.args.behaviours b.pre.0)
 
 returns : tie.Need-returns
 returns c =
     let length = c.before.before.before.before.before.before in
     let begun = length.before.before.before.before.before.before in
     let counted = begun.before.before.before in
-    passive_words_wrote _ _ _ (entry counted).requires.0.few (kinds_at counted).write-kinds.ensures
-    counted.before.before.before.write-zeros.ensures
-    (started _ _ _ begun.before.count-event.ensures begun.before.before.count-members.ensures
-    counted.passives_length_law.ensures begun.passives_start_law.ensures)
-    counted.passives_length_law.ensures length.before.before.before.before.put_word.ensures
-    length.put-word2.ensures c.before.before.write-zeros2.ensures
+    passive_words_wrote _ _ _ (entry counted).requires.0.few (kinds_at counted).write_kinds-kinds.ensures
+    counted.before.before.before.write_zeros.ensures
+    (started _ _ _ begun.before.count_event.ensures begun.before.before.count_members-m.ensures
+    counted.passives_length-count.ensures begun.passives_start-start.ensures)
+    counted.passives_length-count.ensures length.before.before.before.before.put_word.ensures
+    length.put_word-2.ensures c.before.before.write_zeros-2.ensures
 
 pub write_passives_spec : {M : Type 1} → statement M
 write_passives_spec =
