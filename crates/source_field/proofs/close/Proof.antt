@@ -11,24 +11,16 @@ close_spec =
     (λ c. search rules)
     (λ c. search rules)
     (λ c κs.
-    let at_r = c.before.before in
-    let at_entry_lem = at_r.before in
-    let h = rw at_r.in-Done.to.1 at at_entry_lem.requires.0 in
+    let h = rw c.in-Done.is at c.requires.0 in
     omega arith)
     (λ c κs. search rules)
     (λ c.
-    let at_r = c.before.before.before.before.before.before in
-    let at_entry_lem = at_r.before.before.before in
-    let h = rw at_r.in-Done.to.1 at at_entry_lem.requires.0 in
+    let h = rw c.in-Done.is at c.requires.0 in
     omega (arith, c.larger_size.ensures))
     (λ c.
-    let at_r = c.before.before.before.before.before.before in
-    let at_entry_lem = at_r.before.before.before in
-    let h = rw at_r.in-Done.to.1 at at_entry_lem.requires.0 in
+    let h = rw c.in-Done.is at c.requires.0 in
     omega arith)
     (λ c κs. search rules)
     (λ c. search rules)
     (λ c.
-    let at_head = c.before.before.before.before in
-    let at_r = at_head.before.before.before in
-    (rw (at_r.in-Done.to.1, c.before.larger_size.ensures, c.first_fault.ensures), rw at_r.in-Done.to.1 at_head.wrap_application.ensures)))
+    (rw (c.in-Done.is, c.larger_size.ensures, c.first_fault.ensures), rw c.in-Done.is c.wrap_application.ensures)))

@@ -12,4 +12,4 @@ under_spec =
     (λ c. search rules)
     (λ c κs. search rules)
     (λ c κs. search rules)
-    (λ c. rw (c.in-Done.to.1, c.before.larger_size.ensures, c.first_fault.ensures)))
+    (λ c. rw (c.in-Done.is, c.larger_size.ensures, c.first_fault.ensures)))
