@@ -4,10 +4,10 @@ use Rattle.link_events.proofs.Laws.{Passed, passed_on, passed_end}
 use Rattle.link_events.proofs.events_end.Statement.{statement}
 use Rattle.link_events.proofs.events_end.Tie as tie
 
-abbrev invariant-loop : tie.invariant-loop
+abbrev invariant-loop : tie.invariant-loop-n
 invariant-loop s i₀ n₀ i n = Passed s i n
 
-abbrev decreases-loop : tie.decreases-loop
+abbrev decreases-loop : tie.decreases-loop-n
 decreases-loop s i₀ n₀ i n = 32 - n
 
 pub events_end_spec : {M : Type 1} → statement M
@@ -17,9 +17,9 @@ events_end_spec =
     invariant-loop
     decreases-loop
     (λ c. record { whole = refl; inside = omega arith; turns = omega arith })
-    (λ c κs. c.before.loop.invariant.inside)
-    (λ c. omega (arith, c.width.ensures.1, c.before.before.before.before.well-formed.0.0))
+    (λ c κs. c.before.loop-n.invariant.inside)
+    (λ c. omega (arith, c.width-i.ensures.1, c.before.before.before.before.well_formed.0.0))
     (λ c. omega arith)
     (λ c. omega arith)
-    (λ c. passed_on c.before.before.loop.invariant c.before.loop-test.true c.width.ensures.0 c.width.ensures.1)
-    (λ c. passed_end c.before.loop.invariant c.loop-test.false))
+    (λ c. passed_on c.before.before.loop-n.invariant c.before.loop-n-test.true c.width-i.ensures.0 c.width-i.ensures.1)
+    (λ c. passed_end c.before.loop-n.invariant c.loop-n-test.false))

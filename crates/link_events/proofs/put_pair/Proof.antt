@@ -4,7 +4,7 @@ use Rattle.link_events.proofs.Laws.{event_within, event_written, pair_first, pai
 use Rattle.link_events.proofs.put_pair.Statement.{statement}
 use Rattle.link_events.proofs.put_pair.Tie as tie
 
-returns : tie.Need-returns
+returns : tie.Need-returns-then-a-ne0
 returns c =
     let at_put_event = c.before.before in
     let at_rank = at_put_event.before in
@@ -14,13 +14,13 @@ returns c =
     let at_sender = at_sender2.before in
     let at_entry_lem = at_sender.before.before.before.before in (
       pair_first at_entry_lem.args.s.now at_entry_lem.args.t.now at_entry_lem.args.a.at at_entry_lem.args.a.size
-          at_entry_lem.args.b.at at_entry_lem.args.b.size at_sender.sender.ensures at_sender2.sender2.ensures
-          at_merge.merge.ensures at_if1.if1.true at_rank.rank.ensures
-          (event_written at_entry_lem.args.out.now _ _ _ _ _ at_entry_lem.requires.2 at_put_event.put-event.ensures.0 at_put_event.put-event.ensures.1),
-      event_within _ _ _ _ at_put_event.put-event.ensures.0,
+          at_entry_lem.args.b.at at_entry_lem.args.b.size at_sender.sender.ensures at_sender2.sender-2.ensures
+          at_merge.merge-m.ensures at_if1.if-a-ne0.true at_rank.rank.ensures
+          (event_written at_entry_lem.args.out.now _ _ _ _ _ at_entry_lem.requires.2 at_put_event.put_event.ensures.0 at_put_event.put_event.ensures.1),
+      event_within _ _ _ _ at_put_event.put_event.ensures.0,
     )
 
-returns_2 : tie.Need-returns-2
+returns_2 : tie.Need-returns-then-b-ne0
 returns_2 c =
     let at_put_event2 = c.before.before in
     let at_rank2 = at_put_event2.before in
@@ -31,18 +31,18 @@ returns_2 c =
     let at_sender = at_sender2.before in
     let at_entry_lem = at_sender.before.before.before.before in (
       pair_second at_entry_lem.args.s.now at_entry_lem.args.t.now at_entry_lem.args.a.at at_entry_lem.args.a.size
-          at_entry_lem.args.b.at at_entry_lem.args.b.size at_sender.sender.ensures at_sender2.sender2.ensures
-          at_merge.merge.ensures at_if1.if1.false at_if2.if2.true at_rank2.rank2.ensures
-          (event_written at_entry_lem.args.out.now _ _ _ _ _ at_entry_lem.requires.2 at_put_event2.put-event2.ensures.0 at_put_event2.put-event2.ensures.1),
-      event_within _ _ _ _ at_put_event2.put-event2.ensures.0,
+          at_entry_lem.args.b.at at_entry_lem.args.b.size at_sender.sender.ensures at_sender2.sender-2.ensures
+          at_merge.merge-m.ensures at_if1.if-a-ne0.false at_if2.if-b-ne0.true at_rank2.rank-then-b-ne0.ensures
+          (event_written at_entry_lem.args.out.now _ _ _ _ _ at_entry_lem.requires.2 at_put_event2.put_event-then-b-ne0.ensures.0 at_put_event2.put_event-then-b-ne0.ensures.1),
+      event_within _ _ _ _ at_put_event2.put_event-then-b-ne0.ensures.0,
     )
 
-returns_3 : tie.Need-returns-3
+returns_3 : tie.Need-returns
 returns_3 c =
     let at_sender = c.before.before.before.before.before.before in
     let at_entry_lem = at_sender.before.before.before.before in (
       pair_none at_entry_lem.args.s.now at_entry_lem.args.t.now at_entry_lem.args.a.at at_entry_lem.args.a.size
-          at_entry_lem.args.b.at at_entry_lem.args.b.size c.before.before.if1.false c.if2.false,
+          at_entry_lem.args.b.at at_entry_lem.args.b.size c.before.before.if-a-ne0.false c.if-b-ne0.false,
       omega arith,
     )
 

@@ -12,6 +12,6 @@ sender_spec =
     (tie.spec
     (λ c. search rules)
     (λ c. search rules)
-    (λ c. omega (arith, c.shared-slice-known.given (c.before.before.args.i + 4)))
+    (λ c. omega (arith, c.shared_slice_known-1.given (c.before.before.args.i + 4)))
     (λ c. search code depth 12)
     (λ c. search code depth 12))

@@ -16,16 +16,16 @@ width_spec =
     (search rules)
     (λ c.
     let answered = c.before.before in
-    let entry = answered.before.before.before in
-    (width_none entry.args.s.now entry.args.i answered.field-answer.ensures.0 c.enum_told.given.1, omega arith))
+    let entry = answered.before.before in
+    (width_none entry.args.s.now entry.args.i answered.field_answer-a.ensures.0 c.in_default.field-0.1, omega arith))
     (λ c.
     let answered = c.before.before.before in
     let entry = answered.before.before.before in
-    omega (arith, width_fits entry.args.s.now entry.args.i entry.requires answered.field-answer.ensures.1 c.before.a.given.1))
+    omega (arith, width_fits entry.args.s.now entry.args.i entry.requires answered.field_answer-a.ensures.1 c.before.in-Value.n.1))
     (λ c.
     let answered = c.before.before.before in
     let entry = answered.before.before.before in
-    let told = c.before.a.given.1 in (
-      width_some entry.args.s.now entry.args.i answered.field-answer.ensures.0 told,
-      width_fits entry.args.s.now entry.args.i entry.requires answered.field-answer.ensures.1 told,
+    let told = c.before.in-Value.n.1 in (
+      width_some entry.args.s.now entry.args.i answered.field_answer-a.ensures.0 told,
+      width_fits entry.args.s.now entry.args.i entry.requires answered.field_answer-a.ensures.1 told,
     )))
