@@ -4,26 +4,26 @@ use Rattle.front_behaviours.proofs.Laws.{handlers_stop, body_ends, ended_body}
 use Rattle.front_behaviours.proofs.read_body.Statement.{statement}
 use Rattle.front_behaviours.proofs.read_body.Tie as tie
 
-returns : tie.Need-returns
+returns : tie.Need-returns-in_default
 returns c =
-    handlers_stop _ _ _ _ _ c.before.before.before.before.read-handlers.ensures.0 c.enum_told.given.1
+    handlers_stop _ _ _ _ _ c.before.before.before.before.read_handlers-r.ensures.0 c.in_default.field-0.1
 
-sub_read_ending : tie.Need-overflow-sub-read-ending
+sub_read_ending : tie.Need-slice_bounds-read_ending-count
 sub_read_ending c =
-    let h = rw c.before.r.given.1 at c.before.before.before.before.before.read-handlers.ensures.1 in
+    let h = rw c.before.in-Done.at.1 at c.before.before.before.before.before.read_handlers-r.ensures.1 in
     omega arith
 
-part_read_ending_start : tie.Need-slice-bounds-read-ending-start
+part_read_ending_start : tie.Need-slice_bounds-read_ending-start
 part_read_ending_start c =
-    let h = rw c.before.r.given.1 at c.before.before.before.before.before.read-handlers.ensures.1 in
+    let h = rw c.before.in-Done.at.1 at c.before.before.before.before.before.read_handlers-r.ensures.1 in
     omega arith
 
-returns_2 : tie.Need-returns-2
+returns_2 : tie.Need-returns
 returns_2 c =
     let at_r = c.before.before.before.before.before.before in
-    let h = rw at_r.r.given.1 at at_r.before.before.before.before.read-handlers.ensures.1 in
+    let h = rw at_r.in-Done.at.1 at at_r.before.before.before.before.read_handlers-r.ensures.1 in
     let g = c.before.before.read_ending in (
-      body_ends _ _ _ _ _ at_r.before.before.before.before.read-handlers.ensures.0 at_r.r.given.1
+      body_ends _ _ _ _ _ at_r.before.before.before.before.read_handlers-r.ensures.0 at_r.in-Done.at.1
           g.ensures.0,
       ended_body _ _ h.2 h.3 (omega arith) g.result g.ensures.1,
     )

@@ -6,14 +6,14 @@ use Rattle.front_behaviours.proofs.Laws.{row_over}
 use Rattle.front_behaviours.proofs.read_row.Statement.{statement}
 use Rattle.front_behaviours.proofs.read_row.Tie as tie
 
-returns_5 : tie.Need-returns-5
+returns_5 : tie.Need-returns
 unfolding row_of
 returns_5 c =
     let at_if2 = c.before.before.before.before.before.before.before in
     let at_entry_lem = at_if2.before.before.before.before.before in (
-      rw (← c.before.before.read-cells.ensures.0) (search code depth 12),
-      row_over at_entry_lem.args.v.now at_entry_lem.args.n c.before.before.read-cells.result
-          c.before.before.read-cells.ensures.1 (omega arith),
+      rw (← c.before.before.read_cells.ensures.0) (search code depth 12),
+      row_over at_entry_lem.args.v.now at_entry_lem.args.n c.before.before.read_cells.result
+          c.before.before.read_cells.ensures.1 (omega arith),
     )
 
 pub read_row_spec : {M : Type 1} → statement M
@@ -23,7 +23,7 @@ read_row_spec =
     (tie.spec
     (λ c. (search code depth 12, tt))
     (search rules)
-    (λ c. omega (arith, c.shared-slice-known2.given 0))
+    (λ c. omega (arith, c.shared_slice_known-2-1.given 0))
     (λ c. (search code depth 12, tt))
     (λ c. (search code depth 12, tt))
     (search rules)
