@@ -1,11 +1,12 @@
 -- The sign that a table of spellings gives, by the laws of the table that formulas share: only those rows count that
 -- pass a test which the word passes.
-use Rattle.lib_base.proofs.Prelude.{ℕ, ◌≤◌, ◌<◌, ◌+◌, ◌≡◌, refl, ◌∙◌, sym, true, false, Bool, ◌&&◌, not, List, [], ◌∷◌}
+use Rattle.lib_base.proofs.Prelude.{ℕ, ◌≤◌, ◌<◌, ◌+◌, ◌≡◌, refl, ◌∙◌, sym, ap, true, false, Bool, false≢true, ◌&&◌, not, List, [], ◌∷◌}
 use Rattle.lib_base.proofs.Prelude.{length, get_or, take, drop, get_or-drop, get_or-take, eqb, leb, ne_eqb, eq-eqb, leb-true}
 use Rattle.lib_base.proofs.Prelude.{arith}
 use Rattle.lib_base.specs.Basics.{pick}
-use Rattle.lib_base.proofs.Tools.{by_test, through}
+use Rattle.lib_base.proofs.Tools.{by_test, split, through}
 use Rattle.source_language.specs.Tokens.{Spelling, spelled, row_word, marks, reserved, same, sign_of}
+use Rattle.source_language.proofs.Scans.{same_is}
 use Rattle.text_marks.specs.Marks.{Lexeme, lexeme, spelled_alike, number_of, formula_marks, formula_mark}
 use Rattle.text_marks.proofs.Rows.{kept_rows, kept_numbers, NoneBegins, none_begins}
 
@@ -69,11 +70,22 @@ reserved_none (a ∷ w) b e h = rw e (none_begins b w (lexemes_of reserved) h)
 first_of : (text : List ℕ) (at n : ℕ) → 0 < n → get_or (take n (drop at text)) 0 0 ≡ get_or text at 0
 first_of text at n h = let q : at + 0 ≡ at = omega arith in get_or-take n (drop at text) 0 0 h ∙ get_or-drop at text 0 0 ∙ rw q
 
+unfoldable pub kept_words : (List ℕ → Bool) → List Spelling → List Spelling
+kept_words keep [] = []
+kept_words keep (spelled s n ∷ rows) = pick (keep s) (spelled s n ∷ kept_words keep rows) (kept_words keep rows)
+
+kept_signs : (keep : List ℕ → Bool) (w : List ℕ) → keep w ≡ true → (rows : List Spelling) → sign_of w rows ≡ sign_of w (kept_words keep rows)
+unfolding kept_words sign_of
+kept_signs keep w h [] = refl
+kept_signs keep w h (spelled s n ∷ rows) =
+    split (keep s) (λ e. rw e (ap (λ (m : ℕ). pick (same w s) n m) (kept_signs keep w h rows)))
+    (λ e. rw e (split (same w s) (λ t. let q : w ≡ s = same_is w s t in absurd (false≢true (sym e ∙ ap keep (sym q) ∙ h))) (λ f. rw f (kept_signs keep w h rows))))
+
 module _ (text : List ℕ) (at n b : ℕ) (h : 0 < n) (e : get_or text at 0 ≡ b) where
-  pub first_rows : (r : ℕ) → r ≡ number_of (take n (drop at text)) (kept_rows (begins_with b) (lexemes_of reserved)) → r ≡ sign_of (take n (drop at text)) reserved
+  pub first_rows : (r : ℕ) → r ≡ sign_of (take n (drop at text)) (kept_words (begins_with b) reserved) → r ≡ sign_of (take n (drop at text)) reserved
   first_rows r q =
       let k : begins_with b (take n (drop at text)) ≡ true = eq-eqb (get_or (take n (drop at text)) 0 0) b (first_of text at n h ∙ e) in
-      q ∙ sym (sign_number (take n (drop at text)) reserved ∙ kept_numbers (begins_with b) (take n (drop at text)) k (lexemes_of reserved))
+      q ∙ sym (kept_signs (begins_with b) (take n (drop at text)) k reserved)
 
   pub first_none : NoneBegins b (lexemes_of reserved) → 0 ≡ sign_of (take n (drop at text)) reserved
   first_none k = sym (sign_number (take n (drop at text)) reserved ∙ reserved_none (take n (drop at text)) b (first_of text at n h ∙ e) k)

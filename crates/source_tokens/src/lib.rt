@@ -4,9 +4,8 @@
 
 ghost use Rattle.std.specs.Prelude.{true, false, ◌≡◌, [], ◌∷◌, ◌≤◌, ◌<◌, ◌+◌, length, get_or, take, drop};
 ghost use Rattle.lib_base.specs.Basics.{pick};
-ghost use Rattle.source_language.specs.Tokens.{marks, reserved, sign_of, is_digit, is_letter, in_word, is_blank, in_comment};
+ghost use Rattle.source_language.specs.Tokens.{marks, reserved, same, sign_of, is_digit, is_letter, in_word, is_blank, in_comment};
 ghost use Rattle.source_language.specs.Scanner.{run_of_kind};
-ghost use Rattle.text_marks.specs.Marks.{spelled_alike};
 ghost use Rattle.source_tokens.specs.Token.{place_of_token, TokenAt, TokenWithin, TokenBegins, PassedOver, OpeningAt};
 ghost use Rattle.source_coding.specs.Bounds.{text_bytes};
 
@@ -117,7 +116,7 @@ pub fn word_end(text: &[u8], at: usize) -> usize
 // The sign where a text's n bytes are this word, else the other one.
 fn spelled(text: &[u8], at: usize, n: usize, word: &[u8], sign: u8, other: u8) -> u8
     requires { at + n ≤ length text.now }
-    ensures { result ≡ pick (spelled_alike (take n (drop at text.now)) word.now) sign other }
+    ensures { result ≡ pick (same (take n (drop at text.now)) word.now) sign other }
 {
     if n != word.len() {
         return other;

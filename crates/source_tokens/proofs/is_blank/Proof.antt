@@ -10,7 +10,7 @@ unfolding is_blank
 is_blank_spec =
     tie.close
     (tie.spec
-    (λ c. rw c.if1.true)
-    (λ c. rw c.if2.true)
-    (λ c. rw c.if3.true)
-    (λ c. sym (blank_none c.before.before.before.args.b c.before.before.if1.false c.before.if2.false c.if3.false)))
+    (λ c. rw c.if-b-eq32.true)
+    (λ c. rw c.if-b-eq10.true)
+    (λ c. rw c.if-b-eq9.true)
+    (λ c. sym (blank_none c.before.before.before.args.b c.before.before.if-b-eq32.false c.before.if-b-eq10.false c.if-b-eq9.false)))

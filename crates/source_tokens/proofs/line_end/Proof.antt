@@ -6,27 +6,27 @@ use Rattle.source_tokens.proofs.Runs.{RunSoFar, run_start, run_turn, run_stop, r
 use Rattle.source_tokens.proofs.line_end.Statement.{statement}
 use Rattle.source_tokens.proofs.line_end.Tie as tie
 
-abbrev invariant-loop : tie.invariant-loop
+abbrev invariant-loop : tie.invariant-loop-i
 invariant-loop text at i₀ i = RunSoFar in_comment text at i
 
-abbrev decreases-loop : tie.decreases-loop
+abbrev decreases-loop : tie.decreases-loop-i
 decreases-loop text at i₀ i = length text - i
 
-loop_holds : tie.Need-loop-init invariant-loop decreases-loop
+loop_holds : tie.Need-loop-i-init invariant-loop decreases-loop
 loop_holds c = run_start in_comment _ _ c.requires
 
-returns : tie.Need-returns invariant-loop decreases-loop
+returns : tie.Need-returns-then-text-i-eq10 invariant-loop decreases-loop
 returns c =
     let at_loop_test = c.before.before in
-    run_stop in_comment _ at_loop_test.before.loop.invariant at_loop_test.loop-test.true (comment_ends _ c.if1.true)
+    run_stop in_comment _ at_loop_test.before.loop-i.invariant at_loop_test.loop-i-test.true (comment_ends _ c.if-text-i-eq10.true)
 
-loop_again : tie.Need-loop-preserved invariant-loop decreases-loop
+loop_again : tie.Need-loop-i-preserved invariant-loop decreases-loop
 loop_again c =
     let at_loop_test = c.before.before in
-    run_turn in_comment _ at_loop_test.before.loop.invariant at_loop_test.loop-test.true (comment_on _ c.if1.false)
+    run_turn in_comment _ at_loop_test.before.loop-i.invariant at_loop_test.loop-i-test.true (comment_on _ c.if-text-i-eq10.false)
 
-returns_2 : tie.Need-returns-2 invariant-loop decreases-loop
-returns_2 c = run_end in_comment _ c.before.loop.invariant c.loop-test.false
+returns_2 : tie.Need-returns invariant-loop decreases-loop
+returns_2 c = run_end in_comment _ c.before.loop-i.invariant c.loop-i-test.false
 
 pub line_end_spec : {M : Type 1} → statement M
 line_end_spec =
