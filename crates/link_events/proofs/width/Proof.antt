@@ -15,17 +15,11 @@ width_spec =
     (search rules)
     (search rules)
     (λ c.
-    let answered = c.before.before in
-    let entry = answered.before.before in
-    (width_none entry.args.s.now entry.args.i answered.field_answer-a.ensures.0 c.in_default.field-0.1, omega arith))
+    (width_none c.args.s.now c.args.i c.field_answer-a.ensures.0 c.in_default.is, omega arith))
     (λ c.
-    let answered = c.before.before.before in
-    let entry = answered.before.before.before in
-    omega (arith, width_fits entry.args.s.now entry.args.i entry.requires answered.field_answer-a.ensures.1 c.before.in-Value.n.1))
+    omega (arith, width_fits c.args.s.now c.args.i c.requires c.field_answer-a.ensures.1 c.in-Value.is))
     (λ c.
-    let answered = c.before.before.before in
-    let entry = answered.before.before.before in
-    let told = c.before.in-Value.n.1 in (
-      width_some entry.args.s.now entry.args.i answered.field_answer-a.ensures.0 told,
-      width_fits entry.args.s.now entry.args.i entry.requires answered.field_answer-a.ensures.1 told,
+    let told = c.in-Value.is in (
+      width_some c.args.s.now c.args.i c.field_answer-a.ensures.0 told,
+      width_fits c.args.s.now c.args.i c.requires c.field_answer-a.ensures.1 told,
     )))
