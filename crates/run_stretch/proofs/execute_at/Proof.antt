@@ -9,4 +9,4 @@ unfolding executed_at
 execute_at_spec =
     tie.close
     (tie.spec (search rules) (search rules) (search rules) (search rules) (search rules) (search rules) (search rules) (search rules)
-    (λ c. rw (← c.before.before.before.before.before.get-word.ensures, ← c.before.before.before.before.get-word2.ensures) c.before.before.execute.ensures))
+    (λ c. rw (← c.before.before.before.before.before.get_word-code.ensures, ← c.before.before.before.before.get_word-constant.ensures) c.before.before.execute.ensures))
