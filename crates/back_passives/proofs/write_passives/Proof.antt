@@ -35,8 +35,8 @@ passives_start_requires : tie.Need-passives_start-start-requires
 passives_start_requires c κs =
     let counted = c.before.before in
     let b = entry counted in
-    let m = members_fit _ _ _ _ c.before.count_members-m.ensures b.pre.0.few in
-    omega (arith, counted.passives_length-count.ensures, count_again_small b.args.draft.now b.args.behaviours b.pre.0)
+    let m = members_fit _ _ _ _ c.before.count_members-m.ensures b.requires.0.few in
+    omega (arith, counted.passives_length-count.ensures, count_again_small b.args.draft.now b.args.behaviours b.requires.0)
 
 cast_put_word : tie.Need-overflow_cast-start
 cast_put_word c =
@@ -46,7 +46,7 @@ cast_put_word c =
       arith,
       c.before.passives_start-start.ensures,
       c.before.before.count_event.ensures,
-      count_event_small b.args.draft.now b.args.behaviours b.pre.0,
+      count_event_small b.args.draft.now b.args.behaviours b.requires.0,
       start_small b.args.events c.before.before.count_event.result members.count_members-m.result
           members.before.passives_length-count.result,
     )
@@ -55,7 +55,7 @@ cast_put_word_2 : tie.Need-overflow_cast-count
 cast_put_word_2 c =
     let counted = c.before.before.before.before.before.before.before.before in
     let b = entry counted in
-    omega (arith, counted.passives_length-count.ensures, count_again_small b.args.draft.now b.args.behaviours b.pre.0)
+    omega (arith, counted.passives_length-count.ensures, count_again_small b.args.draft.now b.args.behaviours b.requires.0)
 
 returns : tie.Need-returns
 returns c =
