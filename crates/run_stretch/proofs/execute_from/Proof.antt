@@ -15,21 +15,15 @@ all {i} {n} h w q = rw w (rw (le-ltb i n h) at q)
 
 returns : tie.Need-returns-then-done-n
 returns c =
-    let ran = c.before.before.before.before.before.before.before in
-    let read = ran.before.before in
-    let entry = read.before.before.before in
-    fewer c.if-done-n.true c.before.before.before.put_word.ensures
-    (written_late _ _ _ _ (λ i. omega (arith, read.before.before.slice_known-1.given i)) (omega (arith, entry.requires.1)) (omega (arith, read.get_word-depth.ensures, entry.requires.3))
-    read.get_word-depth.ensures ran.run_from-ran.ensures.0)
+    fewer c.if-done-n.true c.put_word.ensures
+    (written_late _ _ _ _ (λ i. omega (arith, c.slice_known-1.given i)) (omega (arith, c.requires.1)) (omega (arith, c.get_word-depth.ensures, c.requires.3))
+    c.get_word-depth.ensures c.run_from-ran.ensures.0)
 
 returns_2 : tie.Need-returns
 returns_2 c =
-    let ran = c.before.before.before.before.before.before.before in
-    let read = ran.before.before in
-    let entry = read.before.before.before in
-    all c.if-done-n.false c.before.before.before.put_word.ensures
-    (written_late _ _ _ _ (λ i. omega (arith, read.before.before.slice_known-1.given i)) (omega (arith, entry.requires.1)) (omega (arith, read.get_word-depth.ensures, entry.requires.3))
-    read.get_word-depth.ensures ran.run_from-ran.ensures.0)
+    all c.if-done-n.false c.put_word.ensures
+    (written_late _ _ _ _ (λ i. omega (arith, c.slice_known-1.given i)) (omega (arith, c.requires.1)) (omega (arith, c.get_word-depth.ensures, c.requires.3))
+    c.get_word-depth.ensures c.run_from-ran.ensures.0)
 
 pub execute_from_spec : {M : Type 1} → statement M
 execute_from_spec =
