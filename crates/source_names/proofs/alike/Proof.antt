@@ -5,24 +5,24 @@ use Rattle.source_names.proofs.Places.{one_more}
 use Rattle.source_names.proofs.alike.Statement.{statement}
 use Rattle.source_names.proofs.alike.Tie as tie
 
-abbrev invariant-loop : tie.invariant-loop
+abbrev invariant-loop : tie.invariant-loop-k
 invariant-loop text p q n r₀ k₀ r k = (r ≡ same_bytes text p q k) × (k ≤ n)
 
-abbrev decreases-loop : tie.decreases-loop
+abbrev decreases-loop : tie.decreases-loop-k
 decreases-loop text p q n r₀ k₀ r k = n - k
 
-loop_holds : tie.Need-loop-init invariant-loop decreases-loop
+loop_holds : tie.Need-loop-k-init invariant-loop decreases-loop
 unfolding same_bytes
 loop_holds c = (refl, omega arith)
 
-loop_again : tie.Need-loop-preserved invariant-loop decreases-loop
+loop_again : tie.Need-loop-k-preserved invariant-loop decreases-loop
 loop_again c =
-    let turn = c.before.before.before.loop in
+    let turn = c.before.before.before.loop-k in
     (one_more _ _ _ turn.k turn.invariant.0, omega arith)
 
 returns : tie.Need-returns invariant-loop decreases-loop
 returns c =
-    let turn = c.before.loop in
+    let turn = c.before.loop-k in
     let e : turn.k ≡ c.before.before.args.n = omega arith in
     rw e at turn.invariant.0
 

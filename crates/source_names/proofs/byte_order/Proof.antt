@@ -13,8 +13,8 @@ byte_order_spec =
     (λ c.
     let at_order = c.before.before in
     let a = at_order.before.args in
-    rw (sym c.before.in-word.ensures ∙ c.if2.true, lt-ltb a.b a.c at_order.if1.true))
-    (λ c. rw (sym c.before.in-word.ensures ∙ c.if2.false))
+    rw (sym c.before.in_word.ensures ∙ c.if-in_word.true, lt-ltb a.b a.c at_order.if-b-c.true))
+    (λ c. rw (sym c.before.in_word.ensures ∙ c.if-in_word.false))
     (λ c.
     let a = c.before.args in
-    rw (le-ltb a.b a.c c.if1.false) (split (in_word a.c) (λ t. rw t) (λ f. rw f))))
+    rw (le-ltb a.b a.c c.if-b-c.false) (split (in_word a.c) (λ t. rw t) (λ f. rw f))))

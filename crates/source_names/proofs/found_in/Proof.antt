@@ -4,17 +4,17 @@ use Rattle.source_names.specs.Search.{found_in}
 use Rattle.source_names.proofs.found_in.Statement.{statement}
 use Rattle.source_names.proofs.found_in.Tie as tie
 
-returns : tie.Need-returns
+returns : tie.Need-returns-then-k-sorted
 unfolding found_in
 returns c =
     let at_sought = c.before in
-    rw (← at_sought.sought.ensures, lt-ltb at_sought.sought.result at_sought.before.before.before.before.args.sorted c.if1.true)
+    rw (← at_sought.sought-k.ensures, lt-ltb at_sought.sought-k.result at_sought.before.before.before.before.args.sorted c.if-k-sorted.true)
 
-returns_2 : tie.Need-returns-2
+returns_2 : tie.Need-returns
 unfolding found_in
 returns_2 c =
     let at_sought = c.before.before.before in
-    rw (← at_sought.sought.ensures, le-ltb at_sought.sought.result at_sought.before.before.before.before.args.sorted c.before.before.if1.false, c.index_of.ensures.0)
+    rw (← at_sought.sought-k.ensures, le-ltb at_sought.sought-k.result at_sought.before.before.before.before.args.sorted c.before.before.if-k-sorted.false, c.index_of.ensures.0)
 
 pub found_in_spec : {M : Type 1} → statement M
 found_in_spec =

@@ -4,8 +4,8 @@ use Rattle.source_names.proofs.Places.{last_unlike}
 use Rattle.source_names.proofs.same_bytes.Statement.{statement}
 use Rattle.source_names.proofs.same_bytes.Tie as tie
 
-returns : tie.Need-returns
-returns c = last_unlike _ _ _ _ c.before.before.before.before.requires.1.1 c.if1.true
+returns : tie.Need-returns-then-text-p
+returns c = last_unlike _ _ _ _ c.before.before.before.before.requires.1.1 c.if-text-p.true
 
 pub same_bytes_spec : {M : Type 1} → statement M
 same_bytes_spec =
