@@ -150,1035 +150,811 @@ claims_product t = (operand_below t, operand.Post, level-at-reads.Asked, level-a
 abbrev claims_sum : ℕ → sum-lts.Claims
 claims_sum t = (product_below t, product.Post, level-at-reads.Asked, level-at-reads.Learnt, close-reads.Asked, close-reads.Learnt)
 
-abbrev product_Inv_loop : product-lts.invariant-loop
+abbrev product_Inv_loop : product-lts.invariant-loop-r
 product_Inv_loop ts at out₀ n r₀ out r = Keeps 0 ts at n out₀ r₀ out r
 
-abbrev product_μ_loop : product-lts.decreases-loop
+abbrev product_μ_loop : product-lts.decreases-loop-r
 product_μ_loop ts at out₀ n r₀ out r = left (length ts) r
 
-abbrev sum_Inv_loop : sum-lts.invariant-loop
+abbrev sum_Inv_loop : sum-lts.invariant-loop-r
 sum_Inv_loop ts at out₀ n r₀ out r = Keeps 1 ts at n out₀ r₀ out r
 
-abbrev sum_μ_loop : sum-lts.decreases-loop
+abbrev sum_μ_loop : sum-lts.decreases-loop-r
 sum_μ_loop ts at out₀ n r₀ out r = left (length ts) r
 
-abbrev ordering_Inv_loop : ordering-lts.invariant-loop
+abbrev ordering_Inv_loop : ordering-lts.invariant-loop-r
 ordering_Inv_loop ts at out₀ n r₀ out r = Keeps 2 ts at n out₀ r₀ out r
 
-abbrev ordering_μ_loop : ordering-lts.decreases-loop
+abbrev ordering_μ_loop : ordering-lts.decreases-loop-r
 ordering_μ_loop ts at out₀ n r₀ out r = left (length ts) r
 
-abbrev equality_Inv_loop : equality-lts.invariant-loop
+abbrev equality_Inv_loop : equality-lts.invariant-loop-r
 equality_Inv_loop ts at out₀ n r₀ out r = Keeps 3 ts at n out₀ r₀ out r
 
-abbrev equality_μ_loop : equality-lts.decreases-loop
+abbrev equality_μ_loop : equality-lts.decreases-loop-r
 equality_μ_loop ts at out₀ n r₀ out r = left (length ts) r
 
-abbrev conjunction_Inv_loop : conjunction-lts.invariant-loop
+abbrev conjunction_Inv_loop : conjunction-lts.invariant-loop-r
 conjunction_Inv_loop ts at out₀ n r₀ out r = Keeps 4 ts at n out₀ r₀ out r
 
-abbrev conjunction_μ_loop : conjunction-lts.decreases-loop
+abbrev conjunction_μ_loop : conjunction-lts.decreases-loop-r
 conjunction_μ_loop ts at out₀ n r₀ out r = left (length ts) r
 
-abbrev disjunction_Inv_loop : disjunction-lts.invariant-loop
+abbrev disjunction_Inv_loop : disjunction-lts.invariant-loop-r
 disjunction_Inv_loop ts at out₀ n r₀ out r = Keeps 5 ts at n out₀ r₀ out r
 
-abbrev disjunction_μ_loop : disjunction-lts.decreases-loop
+abbrev disjunction_μ_loop : disjunction-lts.decreases-loop-r
 disjunction_μ_loop ts at out₀ n r₀ out r = left (length ts) r
 
 -- ---- a bracket or comma, and a formula
 
-argument_enum_known_r : (t : ℕ) → argument-lts.Need-enum-known-r (claims_argument t) (argument_at t) argument.Post
+argument_enum_known_r : (t : ℕ) → argument-lts.Need-enum_known-r (claims_argument t) (argument_at t) argument.Post
 argument_enum_known_r t c = search rules
 
-argument_enum_told : (t : ℕ) → argument-lts.Need-enum-told (claims_argument t) (argument_at t) argument.Post
+argument_enum_told : (t : ℕ) → argument-lts.Need-enum_told-1 (claims_argument t) (argument_at t) argument.Post
 argument_enum_told t c = search rules
 
-argument_returns : (t : ℕ) → argument-lts.Need-returns (claims_argument t) (argument_at t) argument.Post
+argument_returns : (t : ℕ) → argument-lts.Need-returns-in_default (claims_argument t) (argument_at t) argument.Post
 argument_returns t c =
-    let at_entry_lem = c.before.before.before in (
-      argument_fault at_entry_lem.args.m at_entry_lem.args.ts.now at_entry_lem.args.out.now
-          at_entry_lem.args.out.now at_entry_lem.args.r c.enum_told.given.1,
-      at_entry_lem.requires.1.1.1.1,
+    (
+      argument_fault c.args.m c.args.ts.now c.args.out.now
+          c.args.out.now c.args.r c.in_default.is,
+      c.requires.1.1.1.1,
     )
 
-argument_mark_at_requires : (t : ℕ) → argument-lts.Need-mark-at-requires (claims_argument t) (argument_at t)
+argument_mark_at_requires : (t : ℕ) → argument-lts.Need-mark_at-requires (claims_argument t) (argument_at t)
     argument.Post
 argument_mark_at_requires t c κs = search rules
 
-argument_returns_2 : (t : ℕ) → argument-lts.Need-returns-2 (claims_argument t) (argument_at t) argument.Post
+argument_returns_2 : (t : ℕ) → argument-lts.Need-returns-then-mark_at-m (claims_argument t) (argument_at t) argument.Post
 argument_returns_2 t c =
-    let at_r = c.before.before.before in
-    let at_entry_lem = at_r.before.before.before in (
-      argument_missing at_entry_lem.args.m at_entry_lem.args.ts.now at_entry_lem.args.out.now
-          at_entry_lem.args.out.now at_entry_lem.args.r _ _ _ at_r.r.given.1 at_entry_lem.requires.1.1.0
-          (λ e. c.if1.true (c.before.mark-at.ensures.0 ∙ e)),
-      at_entry_lem.requires.1.1.1.1,
+    (
+      argument_missing c.args.m c.args.ts.now c.args.out.now
+          c.args.out.now c.args.r _ _ _ c.in-Done.is c.requires.1.1.0
+          (λ e. c.if-mark_at-m.true (c.mark_at.ensures.0 ∙ e)),
+      c.requires.1.1.1.1,
     )
 
-argument_add_disjunction : (t : ℕ) → argument-lts.Need-overflow-add-disjunction (claims_argument t) (argument_at t)
+argument_add_disjunction : (t : ℕ) → argument-lts.Need-overflow_add-at (claims_argument t) (argument_at t)
     argument.Post
 argument_add_disjunction t c =
-    let at_entry_lem = c.before.before.before.before.before.before in
-    let h = c.before.mark-at.ensures.1 (omega (arith, c.if1.false, at_entry_lem.requires.1.1.0)) in
+    let h = c.mark_at.ensures.1 (omega (arith, c.if-mark_at-m.false, c.requires.1.1.0)) in
     omega arith
 
-argument_disjunction_requires : (t : ℕ) → argument-lts.Need-disjunction-requires (claims_argument t) (argument_at t)
+argument_disjunction_requires : (t : ℕ) → argument-lts.Need-disjunction-q-requires (claims_argument t) (argument_at t)
     argument.Post
 argument_disjunction_requires t c κs =
-    let at_mark_at = c.before.before in
-    let at_r = at_mark_at.before.before in
-    let at_entry_lem = at_r.before.before.before in
-    let h = at_mark_at.mark-at.ensures.1 (omega (arith, c.before.if1.false, at_entry_lem.requires.1.1.0)) in
-    let e = rw at_r.r.given.1 at at_entry_lem.requires.0 in
-    let i = rw at_r.r.given.1 at at_entry_lem.requires.1.0 in
-    (omega arith, (omega arith, at_entry_lem.requires.1.1.1))
+    let h = c.mark_at.ensures.1 (omega (arith, c.if-mark_at-m.false, c.requires.1.1.0)) in
+    let e = rw c.in-Done.is at c.requires.0 in
+    let i = rw c.in-Done.is at c.requires.1.0 in
+    (omega arith, (omega arith, c.requires.1.1.1))
 
 argument_under_requires : (t : ℕ) → argument-lts.Need-under-requires (claims_argument t) (argument_at t) argument.Post
 argument_under_requires t c κs = search rules
 
-argument_returns_3 : (t : ℕ) → argument-lts.Need-returns-3 (claims_argument t) (argument_at t) argument.Post
+argument_returns_3 : (t : ℕ) → argument-lts.Need-returns-in_default (claims_argument t) (argument_at t) argument.Post
 argument_returns_3 t c =
-    let at_disjunction = c.before in
-    let at_if1 = at_disjunction.before.before in
-    let at_mark_at = at_if1.before in
-    let at_r = at_mark_at.before.before in
-    let at_entry_lem = at_r.before.before.before in (
-      argument_read at_entry_lem.args.m at_entry_lem.args.ts.now at_entry_lem.args.out.now
-          at_disjunction.disjunction.new.1.1.0 at_entry_lem.args.r _ _ _ at_disjunction.disjunction.result
-          c.under.result at_r.r.given.1 at_entry_lem.requires.1.1.0
-          (sym at_mark_at.mark-at.ensures.0 ∙ at_if1.if1.false) at_disjunction.disjunction.ensures.0
-          at_disjunction.disjunction.ensures.1.0 c.under.ensures,
-      at_disjunction.disjunction.ensures.1.1,
+    (
+      argument_read c.args.m c.args.ts.now c.args.out.now
+          c.disjunction-q.new.1.1.0 c.args.r _ _ _ c.disjunction-q.result
+          c.under.result c.in-Done.is c.requires.1.1.0
+          (sym c.mark_at.ensures.0 ∙ c.if-mark_at-m.false) c.disjunction-q.ensures.0
+          c.disjunction-q.ensures.1.0 c.under.ensures,
+      c.disjunction-q.ensures.1.1,
     )
 
 -- ---- `if`
 
-choice_add_t6 : (t : ℕ) → choice-lts.Need-overflow-add-t6 (claims_choice t) (choice_at t) choice.Post
+choice_add_t6 : (t : ℕ) → choice-lts.Need-overflow_add-at (claims_choice t) (choice_at t) choice.Post
 choice_add_t6 t c = omega arith
 
-choice_argument_requires : (t : ℕ) → choice-lts.Need-argument-requires (claims_choice t) (choice_at t) choice.Post
+choice_argument_requires : (t : ℕ) → choice-lts.Need-argument-r-requires (claims_choice t) (choice_at t) choice.Post
 choice_argument_requires t c κs =
-    (omega (arith, c.before.before.requires.0), (omega arith, (omega arith, (omega arith, omega arith))))
+    (omega (arith, c.requires.0), (omega arith, (omega arith, (omega arith, omega arith))))
 
-choice_argument_requires_2 : (t : ℕ) → choice-lts.Need-argument-requires-2 (claims_choice t) (choice_at t) choice.Post
+choice_argument_requires_2 : (t : ℕ) → choice-lts.Need-argument-r-requires-2 (claims_choice t) (choice_at t) choice.Post
 choice_argument_requires_2 t c κs =
-    let at_argument = c.before in
-    let at_entry_lem = at_argument.before.before.before in
-    let l = argued_left 1 at_entry_lem.args.ts.now at_entry_lem.args.out.now
-    at_argument.argument.new.1.1.1.0 (Done (at_entry_lem.args.at + 1) at_entry_lem.args.n 0)
-    at_argument.argument.result at_argument.argument.ensures.0 in
-    let i = argued_in 1 at_entry_lem.args.ts.now at_entry_lem.args.out.now
-    at_argument.argument.new.1.1.1.0 (Done (at_entry_lem.args.at + 1) at_entry_lem.args.n 0)
-    at_argument.argument.result (omega arith) at_argument.argument.ensures.0 in (
-      omega (arith, at_entry_lem.requires.0),
+    let l = argued_left 1 c.args.ts.now c.args.out.now
+    c.argument-r.new.1.1.1.0 (Done (c.args.at + 1) c.args.n 0)
+    c.argument-r.result c.argument-r.ensures.0 in
+    let i = argued_in 1 c.args.ts.now c.args.out.now
+    c.argument-r.new.1.1.1.0 (Done (c.args.at + 1) c.args.n 0)
+    c.argument-r.result (omega arith) c.argument-r.ensures.0 in (
+      omega (arith, c.requires.0),
       (
         i,
         (
           omega arith,
-          (at_entry_lem.requires.1.1.1.0, at_argument.argument.ensures.1),
+          (c.requires.1.1.1.0, c.argument-r.ensures.1),
         ),
       ),
     )
 
-choice_argument_requires_3 : (t : ℕ) → choice-lts.Need-argument-requires-3 (claims_choice t) (choice_at t) choice.Post
+choice_argument_requires_3 : (t : ℕ) → choice-lts.Need-argument-r-requires-3 (claims_choice t) (choice_at t) choice.Post
 choice_argument_requires_3 t c κs =
-    let at_argument2 = c.before in
-    let at_argument = at_argument2.before.before in
-    let at_entry_lem = at_argument.before.before.before in
-    let l = argued_left 1 at_entry_lem.args.ts.now at_entry_lem.args.out.now
-    at_argument.argument.new.1.1.1.0 (Done (at_entry_lem.args.at + 1) at_entry_lem.args.n 0)
-    at_argument.argument.result at_argument.argument.ensures.0 in
-    let i = argued_in 1 at_entry_lem.args.ts.now at_entry_lem.args.out.now
-    at_argument.argument.new.1.1.1.0 (Done (at_entry_lem.args.at + 1) at_entry_lem.args.n 0)
-    at_argument.argument.result (omega arith) at_argument.argument.ensures.0 in
-    let k = argued_left 3 at_entry_lem.args.ts.now at_argument.argument.new.1.1.1.0
-    at_argument2.argument2.new.1.1.1.0 at_argument.argument.result at_argument2.argument2.result
-    at_argument2.argument2.ensures.0 in
-    let j = argued_in 3 at_entry_lem.args.ts.now at_argument.argument.new.1.1.1.0
-    at_argument2.argument2.new.1.1.1.0 at_argument.argument.result at_argument2.argument2.result i
-    at_argument2.argument2.ensures.0 in (
-      omega (arith, at_entry_lem.requires.0),
+    let l = argued_left 1 c.args.ts.now c.args.out.now
+    c.argument-r.new.1.1.1.0 (Done (c.args.at + 1) c.args.n 0)
+    c.argument-r.result c.argument-r.ensures.0 in
+    let i = argued_in 1 c.args.ts.now c.args.out.now
+    c.argument-r.new.1.1.1.0 (Done (c.args.at + 1) c.args.n 0)
+    c.argument-r.result (omega arith) c.argument-r.ensures.0 in
+    let k = argued_left 3 c.args.ts.now c.argument-r.new.1.1.1.0
+    c.argument-r-2.new.1.1.1.0 c.argument-r.result c.argument-r-2.result
+    c.argument-r-2.ensures.0 in
+    let j = argued_in 3 c.args.ts.now c.argument-r.new.1.1.1.0
+    c.argument-r-2.new.1.1.1.0 c.argument-r.result c.argument-r-2.result i
+    c.argument-r-2.ensures.0 in (
+      omega (arith, c.requires.0),
       (
         j,
         (
           omega arith,
-          (at_entry_lem.requires.1.1.1.0, at_argument2.argument2.ensures.1),
+          (c.requires.1.1.1.0, c.argument-r-2.ensures.1),
         ),
       ),
     )
 
-choice_ended_requires : (t : ℕ) → choice-lts.Need-ended-requires (claims_choice t) (choice_at t) choice.Post
+choice_ended_requires : (t : ℕ) → choice-lts.Need-ended-r-requires (claims_choice t) (choice_at t) choice.Post
 choice_ended_requires t c κs = search rules
 
-choice_close_requires : (t : ℕ) → choice-lts.Need-close-requires (claims_choice t) (choice_at t) choice.Post
+choice_close_requires : (t : ℕ) → choice-lts.Need-close-r-requires (claims_choice t) (choice_at t) choice.Post
 choice_close_requires t c κs =
-    let at_ended = c.before in
-    let at_argument3 = at_ended.before in
-    let at_argument2 = at_argument3.before.before in
-    let at_argument = at_argument2.before.before in
-    let at_entry_lem = at_argument.before.before.before in
-    let long = at_argument3.argument3.ensures.1 in (
-      choice_closable at_entry_lem.args.ts.now at_entry_lem.args.at at_entry_lem.args.n at_entry_lem.args.out.now
-          at_argument.argument.new.1.1.1.0 at_argument2.argument2.new.1.1.1.0
-          at_argument3.argument3.new.1.1.1.0 at_argument.argument.result at_argument2.argument2.result
-          at_argument3.argument3.result at_argument.argument.ensures.0 at_argument2.argument2.ensures.0
-          at_argument3.argument3.ensures.0 at_entry_lem.requires.1.0 at_entry_lem.requires.1.1.1.0
-          at_ended.ended.result at_ended.ended.ensures long,
+    let long = c.argument-r-3.ensures.1 in (
+      choice_closable c.args.ts.now c.args.at c.args.n c.args.out.now
+          c.argument-r.new.1.1.1.0 c.argument-r-2.new.1.1.1.0
+          c.argument-r-3.new.1.1.1.0 c.argument-r.result c.argument-r-2.result
+          c.argument-r-3.result c.argument-r.ensures.0 c.argument-r-2.ensures.0
+          c.argument-r-3.ensures.0 c.requires.1.0 c.requires.1.1.1.0
+          c.ended-r.result c.ended-r.ensures long,
       omega arith,
     )
 
-choice_returns : (t : ℕ) → choice-lts.Need-returns (claims_choice t) (choice_at t) choice.Post
+choice_returns : (t : ℕ) → choice-lts.Need-returns-in_default (claims_choice t) (choice_at t) choice.Post
 choice_returns t c =
-    let at_ended = c.before.before in
-    let at_argument3 = at_ended.before in
-    let at_argument2 = at_argument3.before.before in
-    let at_argument = at_argument2.before.before in
-    let at_entry_lem = at_argument.before.before.before in
-    let long = at_argument3.argument3.ensures.1 in
-    with_length (chosen at_entry_lem.args.ts.now at_entry_lem.args.at at_entry_lem.args.n at_entry_lem.args.out.now
-    at_argument.argument.new.1.1.1.0 at_argument2.argument2.new.1.1.1.0
-    at_argument3.argument3.new.1.1.1.0 at_argument.argument.result at_argument2.argument2.result
-    at_argument3.argument3.result at_argument.argument.ensures.0 at_argument2.argument2.ensures.0
-    at_argument3.argument3.ensures.0 at_entry_lem.requires.1.0 at_entry_lem.requires.1.1.1.0
-    at_ended.ended.result c.close.result c.close.new.1.1.1.1.0 at_ended.ended.ensures
-    c.close.ensures.0 c.close.ensures.1 at_entry_lem.requires.1.1.0 at_entry_lem.requires.1.1.1.1 long)
-    (c.close.auto.1.1.1.1.0 ∙ long)
+    let long = c.argument-r-3.ensures.1 in
+    with_length (chosen c.args.ts.now c.args.at c.args.n c.args.out.now
+    c.argument-r.new.1.1.1.0 c.argument-r-2.new.1.1.1.0
+    c.argument-r-3.new.1.1.1.0 c.argument-r.result c.argument-r-2.result
+    c.argument-r-3.result c.argument-r.ensures.0 c.argument-r-2.ensures.0
+    c.argument-r-3.ensures.0 c.requires.1.0 c.requires.1.1.1.0
+    c.ended-r.result c.close-r.result c.close-r.new.1.1.1.1.0 c.ended-r.ensures
+    c.close-r.ensures.0 c.close-r.ensures.1 c.requires.1.1.0 c.requires.1.1.1.1 long)
+    (c.close-r.auto.1.1.1.1.0 ∙ long)
 
 -- ---- `!` and the primaries
 
-operand_returns : (t : ℕ) → operand-lts.Need-returns (claims_operand t) (operand_at t) operand.Post
+operand_returns : (t : ℕ) → operand-lts.Need-returns-in_default (claims_operand t) (operand_at t) operand.Post
 operand_returns t c =
-    let at_entry_lem = c.before.before in (
-      operand_none at_entry_lem.args.ts.now at_entry_lem.args.at at_entry_lem.args.n at_entry_lem.args.out.now
-          at_entry_lem.args.out.now c.if1.true,
-      (tt, at_entry_lem.requires.1.1.1),
+    (
+      operand_none c.args.ts.now c.args.at c.args.n c.args.out.now
+          c.args.out.now c.if-mark_at-m.true,
+      (tt, c.requires.1.1.1),
     )
 
-operand_mul_t : (t : ℕ) → operand-lts.Need-overflow-mul-t (claims_operand t) (operand_at t) operand.Post
-operand_mul_t t c = omega (arith, c.before.before.requires.1.1.0)
+operand_mul_t : (t : ℕ) → operand-lts.Need-offset_bounds-ts-at (claims_operand t) (operand_at t) operand.Post
+operand_mul_t t c = omega (arith, c.requires.1.1.0)
 
-operand_shared_slice_read_t : (t : ℕ) → operand-lts.Need-shared-slice-read-t (claims_operand t) (operand_at t)
+operand_shared_slice_read_t : (t : ℕ) → operand-lts.Need-bounds-ts-at (claims_operand t) (operand_at t)
     operand.Post
 operand_shared_slice_read_t t c = search rules
 
-operand_add_operand : (t : ℕ) → operand-lts.Need-overflow-add-operand (claims_operand t) (operand_at t) operand.Post
+operand_add_operand : (t : ℕ) → operand-lts.Need-overflow_add-at (claims_operand t) (operand_at t) operand.Post
 operand_add_operand t c = omega arith
 
-operand_operand_requires : (t : ℕ) → operand-lts.Need-operand-requires (claims_operand t) (operand_at t) operand.Post
+operand_operand_requires : (t : ℕ) → operand-lts.Need-operand-r-requires (claims_operand t) (operand_at t) operand.Post
 operand_operand_requires t c κs =
-    let at_entry_lem = c.before.before.before.before.before in
-    (omega (arith, at_entry_lem.requires.0), (omega arith, (omega arith, omega arith)))
+    (omega (arith, c.requires.0), (omega arith, (omega arith, omega arith)))
 
-operand_close_requires : (t : ℕ) → operand-lts.Need-close-requires (claims_operand t) (operand_at t) operand.Post
+operand_close_requires : (t : ℕ) → operand-lts.Need-close-r-requires (claims_operand t) (operand_at t) operand.Post
 operand_close_requires t c κs =
-    let at_operand = c.before in
-    let at_entry_lem = at_operand.before.before.before.before.before.before in
-    let long = at_operand.operand.ensures.1.1 in (
-      one_closable at_entry_lem.args.ts.now at_entry_lem.args.at at_entry_lem.args.n
-          at_operand.operand.new.1.1.0 at_operand.operand.result at_operand.operand.ensures.1.0
-          at_entry_lem.requires.1.0 at_entry_lem.requires.1.1.0 long,
+    let long = c.operand-r.ensures.1.1 in (
+      one_closable c.args.ts.now c.args.at c.args.n
+          c.operand-r.new.1.1.0 c.operand-r.result c.operand-r.ensures.1.0
+          c.requires.1.0 c.requires.1.1.0 long,
       omega arith,
     )
 
-operand_returns_2 : (t : ℕ) → operand-lts.Need-returns-2 (claims_operand t) (operand_at t) operand.Post
+operand_returns_2 : (t : ℕ) → operand-lts.Need-returns-then-mark_at-m (claims_operand t) (operand_at t) operand.Post
 operand_returns_2 t c =
-    let at_operand = c.before.before in
-    let at_if2 = at_operand.before.before in
-    let at_if1 = at_if2.before.before in
-    let at_entry_lem = at_if1.before.before in
-    let long = at_operand.operand.ensures.1.1 in
-    with_length (operand_not at_entry_lem.args.ts.now at_entry_lem.args.at at_entry_lem.args.n
-    at_entry_lem.args.out.now at_if1.if1.false at_entry_lem.requires.1.0 at_entry_lem.requires.1.1.0
-    at_entry_lem.requires.1.1.1 at_if2.if2.true at_operand.operand.new.1.1.0
-    at_operand.operand.result c.close.result c.close.new.1.1.1.1.0
-    at_operand.operand.ensures.0 at_operand.operand.ensures.1.0 long c.close.ensures.0
-    c.close.ensures.1) (c.close.auto.1.1.1.1.0 ∙ long)
+    let long = c.operand-r.ensures.1.1 in
+    with_length (operand_not c.args.ts.now c.args.at c.args.n
+    c.args.out.now c.if-mark_at-m.false c.requires.1.0 c.requires.1.1.0
+    c.requires.1.1.1 c.if-t-eq-NOT.true c.operand-r.new.1.1.0
+    c.operand-r.result c.close-r.result c.close-r.new.1.1.1.1.0
+    c.operand-r.ensures.0 c.operand-r.ensures.1.0 long c.close-r.ensures.0
+    c.close-r.ensures.1) (c.close-r.auto.1.1.1.1.0 ∙ long)
 
 operand_choice_requires : (t : ℕ) → operand-lts.Need-choice-requires (claims_operand t) (operand_at t) operand.Post
 operand_choice_requires t c κs =
-    let at_entry_lem = c.before.before.before.before.before.before in
-    (omega (arith, at_entry_lem.requires.0), (omega arith, (omega arith, (omega arith, omega arith))))
+    (omega (arith, c.requires.0), (omega arith, (omega arith, (omega arith, omega arith))))
 
-operand_returns_3 : (t : ℕ) → operand-lts.Need-returns-3 (claims_operand t) (operand_at t) operand.Post
+operand_returns_3 : (t : ℕ) → operand-lts.Need-returns-in_default (claims_operand t) (operand_at t) operand.Post
 operand_returns_3 t c =
-    let at_if3 = c.before.before in
-    let at_if1 = at_if3.before.before.before in
-    let at_entry_lem = at_if1.before.before in (
-      operand_if at_entry_lem.args.ts.now at_entry_lem.args.at at_entry_lem.args.n at_entry_lem.args.out.now
-          at_if1.if1.false at_entry_lem.requires.1.0 at_entry_lem.requires.1.1.0 at_entry_lem.requires.1.1.1
-          at_if3.if3.true c.choice.new.1.1.0 c.choice.result c.choice.ensures.0,
+    (
+      operand_if c.args.ts.now c.args.at c.args.n c.args.out.now
+          c.if-mark_at-m.false c.requires.1.0 c.requires.1.1.0 c.requires.1.1.1
+          c.if-t-eq-IF.true c.choice.new.1.1.0 c.choice.result c.choice.ensures.0,
       c.choice.ensures.1,
     )
 
-operand_argument_requires : (t : ℕ) → operand-lts.Need-argument-requires (claims_operand t) (operand_at t)
+operand_argument_requires : (t : ℕ) → operand-lts.Need-argument-r-requires (claims_operand t) (operand_at t)
     operand.Post
 operand_argument_requires t c κs =
-    let at_entry_lem = c.before.before.before.before.before.before.before in
-    (omega (arith, at_entry_lem.requires.0), (omega arith, (omega arith, (omega arith, omega arith))))
+    (omega (arith, c.requires.0), (omega arith, (omega arith, (omega arith, omega arith))))
 
-operand_ended_requires : (t : ℕ) → operand-lts.Need-ended-requires (claims_operand t) (operand_at t) operand.Post
+operand_ended_requires : (t : ℕ) → operand-lts.Need-ended-r-requires (claims_operand t) (operand_at t) operand.Post
 operand_ended_requires t c κs = search rules
 
-operand_returns_4 : (t : ℕ) → operand-lts.Need-returns-4 (claims_operand t) (operand_at t) operand.Post
+operand_returns_4 : (t : ℕ) → operand-lts.Need-returns-then-t-eq-OPENING (claims_operand t) (operand_at t) operand.Post
 operand_returns_4 t c =
-    let at_argument = c.before in
-    let at_if4 = at_argument.before.before in
-    let at_if1 = at_if4.before.before.before.before in
-    let at_entry_lem = at_if1.before.before in
-    with_length (operand_brackets at_entry_lem.args.ts.now at_entry_lem.args.at at_entry_lem.args.n
-    at_entry_lem.args.out.now at_if1.if1.false at_entry_lem.requires.1.0 at_entry_lem.requires.1.1.0
-    at_entry_lem.requires.1.1.1 at_if4.if4.true at_argument.argument.new.1.1.1.0
-    at_argument.argument.result c.ended.result at_argument.argument.ensures.0 c.ended.ensures)
-    at_argument.argument.ensures.1
+    with_length (operand_brackets c.args.ts.now c.args.at c.args.n
+    c.args.out.now c.if-mark_at-m.false c.requires.1.0 c.requires.1.1.0
+    c.requires.1.1.1 c.if-t-eq-OPENING.true c.argument-r.new.1.1.1.0
+    c.argument-r.result c.ended-r.result c.argument-r.ensures.0 c.ended-r.ensures)
+    c.argument-r.ensures.1
 
 operand_leaf_requires : (t : ℕ) → operand-lts.Need-leaf-requires (claims_operand t) (operand_at t) operand.Post
 operand_leaf_requires t c κs = (omega arith, omega arith)
 
-operand_returns_5 : (t : ℕ) → operand-lts.Need-returns-5 (claims_operand t) (operand_at t) operand.Post
+operand_returns_5 : (t : ℕ) → operand-lts.Need-returns-in_default (claims_operand t) (operand_at t) operand.Post
 operand_returns_5 t c =
-    let at_if4 = c.before.before in
-    let at_if3 = at_if4.before in
-    let at_if2 = at_if3.before in
-    let at_if1 = at_if2.before.before in
-    let at_entry_lem = at_if1.before.before in
-    with_length (operand_leaf at_entry_lem.args.ts.now at_entry_lem.args.at at_entry_lem.args.n
-    at_entry_lem.args.out.now at_if1.if1.false at_entry_lem.requires.1.0 at_entry_lem.requires.1.1.0
-    at_entry_lem.requires.1.1.1 at_if2.if2.false at_if3.if3.false at_if4.if4.false c.leaf.result
+    with_length (operand_leaf c.args.ts.now c.args.at c.args.n
+    c.args.out.now c.if-mark_at-m.false c.requires.1.0 c.requires.1.1.0
+    c.requires.1.1.1 c.if-t-eq-NOT.false c.if-t-eq-IF.false c.if-t-eq-OPENING.false c.leaf.result
     c.leaf.new.1.1.0 c.leaf.ensures.0 c.leaf.ensures.1)
-    (c.leaf.auto.1.1.0 ∙ at_entry_lem.requires.1.1.1)
+    (c.leaf.auto.1.1.0 ∙ c.requires.1.1.1)
 
 -- ---- the level of products
 
-product_operand_requires : (t : ℕ) → product-lts.Need-operand-requires (claims_product t) (product_at t) product.Post
+product_operand_requires : (t : ℕ) → product-lts.Need-operand-r-requires (claims_product t) (product_at t) product.Post
     product_Inv_loop product_μ_loop
 product_operand_requires t c κs =
-    (omega (arith, c.before.before.requires.0), (omega arith, (omega arith, omega arith)))
+    (omega (arith, c.requires.0), (omega arith, (omega arith, omega arith)))
 
-product_loop_holds : (t : ℕ) → product-lts.Need-loop-init (claims_product t) (product_at t) product.Post
+product_loop_holds : (t : ℕ) → product-lts.Need-loop-r-init (claims_product t) (product_at t) product.Post
     product_Inv_loop product_μ_loop
 product_loop_holds t c o u = u
 
-product_enum_known_r : (t : ℕ) → product-lts.Need-enum-known-r (claims_product t) (product_at t) product.Post
+product_enum_known_r : (t : ℕ) → product-lts.Need-enum_known-r (claims_product t) (product_at t) product.Post
     product_Inv_loop product_μ_loop
 product_enum_known_r t c = search rules
 
-product_enum_told : (t : ℕ) → product-lts.Need-enum-told (claims_product t) (product_at t) product.Post
+product_enum_told : (t : ℕ) → product-lts.Need-enum_told-1 (claims_product t) (product_at t) product.Post
     product_Inv_loop product_μ_loop
 product_enum_told t c = search rules
 
-product_returns : (t : ℕ) → product-lts.Need-returns (claims_product t) (product_at t) product.Post product_Inv_loop
+product_returns : (t : ℕ) → product-lts.Need-returns-in_default (claims_product t) (product_at t) product.Post product_Inv_loop
     product_μ_loop
 product_returns t c =
-    let at_loop = c.before.before in
-    let at_operand = at_loop.before in
-    let at_entry_lem = at_operand.before.before.before in
-    level_fault (so_far at_entry_lem.args.out.now at_loop.loop.invariant at_operand.operand.ensures.0
-    at_operand.operand.ensures.1 at_entry_lem.requires.1) c.enum_told.given.1
+    level_fault (so_far c.args.out.now c.loop-r.invariant c.operand-r.ensures.0
+    c.operand-r.ensures.1 c.requires.1) c.in_default.is
 
-product_level_at_requires : (t : ℕ) → product-lts.Need-level-at-requires (claims_product t) (product_at t)
+product_level_at_requires : (t : ℕ) → product-lts.Need-level_at-requires (claims_product t) (product_at t)
     product.Post product_Inv_loop product_μ_loop
 product_level_at_requires t c κs = search rules
 
-product_returns_2 : (t : ℕ) → product-lts.Need-returns-2 (claims_product t) (product_at t) product.Post
+product_returns_2 : (t : ℕ) → product-lts.Need-returns-then-mark_at-m (claims_product t) (product_at t) product.Post
     product_Inv_loop product_μ_loop
 product_returns_2 t c =
-    let at_r = c.before.before.before in
-    let at_loop = at_r.before.before in
-    let at_operand = at_loop.before in
-    let at_entry_lem = at_operand.before.before.before in
-    level_end _ _ _ (so_far at_entry_lem.args.out.now at_loop.loop.invariant at_operand.operand.ensures.0
-    at_operand.operand.ensures.1 at_entry_lem.requires.1) at_r.r.given.1
-    (λ e. c.if1.true (c.before.level-at.ensures.0 ∙ e))
+    level_end _ _ _ (so_far c.args.out.now c.loop-r.invariant c.operand-r.ensures.0
+    c.operand-r.ensures.1 c.requires.1) c.in-Done.is
+    (λ e. c.if-mark_at-m.true (c.level_at.ensures.0 ∙ e))
 
-product_add_operand : (t : ℕ) → product-lts.Need-overflow-add-operand (claims_product t) (product_at t) product.Post
+product_add_operand : (t : ℕ) → product-lts.Need-overflow_add-at (claims_product t) (product_at t) product.Post
     product_Inv_loop product_μ_loop
 product_add_operand t c =
-    let h = c.before.level-at.ensures.1 (omega (arith, c.if1.false)) in
+    let h = c.level_at.ensures.1 (omega (arith, c.if-mark_at-m.false)) in
     omega arith
 
-product_operand_requires_2 : (t : ℕ) → product-lts.Need-operand-requires-2 (claims_product t) (product_at t)
+product_operand_requires_2 : (t : ℕ) → product-lts.Need-operand-r-requires-in-loop-r (claims_product t) (product_at t)
     product.Post product_Inv_loop product_μ_loop
 product_operand_requires_2 t c κs =
-    let at_level_at = c.before.before in
-    let at_r = at_level_at.before.before in
-    let at_loop = at_r.before.before in
-    let at_operand = at_loop.before in
-    let at_entry_lem = at_operand.before.before.before in
-    let h = at_level_at.level-at.ensures.1 (omega (arith, c.before.if1.false)) in
-    let u = so_far at_entry_lem.args.out.now at_loop.loop.invariant at_operand.operand.ensures.0
-    at_operand.operand.ensures.1 at_entry_lem.requires.1 in
-    let w = level_ahead _ _ _ u at_r.r.given.1 in
-    (omega (arith, at_entry_lem.requires.0), (next_room _ _ _ u at_r.r.given.1, (u.few, u.kept)))
+    let h = c.level_at.ensures.1 (omega (arith, c.if-mark_at-m.false)) in
+    let u = so_far c.args.out.now c.loop-r.invariant c.operand-r.ensures.0
+    c.operand-r.ensures.1 c.requires.1 in
+    let w = level_ahead _ _ _ u c.in-Done.is in
+    (omega (arith, c.requires.0), (next_room _ _ _ u c.in-Done.is, (u.few, u.kept)))
 
-product_mul_close : (t : ℕ) → product-lts.Need-overflow-mul-close (claims_product t) (product_at t) product.Post
+product_mul_close : (t : ℕ) → product-lts.Need-offset_bounds-ts-f (claims_product t) (product_at t) product.Post
     product_Inv_loop product_μ_loop
 product_mul_close t c =
-    let at_if1 = c.before.before in
-    let at_level_at = at_if1.before in
-    let at_entry_lem = at_level_at.before.before.before.before.before.before.before.before in
-    let h = at_level_at.level-at.ensures.1 (omega (arith, at_if1.if1.false)) in
-    omega (arith, at_entry_lem.requires.1.1.0)
+    let h = c.level_at.ensures.1 (omega (arith, c.if-mark_at-m.false)) in
+    omega (arith, c.requires.1.1.0)
 
-product_shared_slice_read_close : (t : ℕ) → product-lts.Need-shared-slice-read-close (claims_product t)
+product_shared_slice_read_close : (t : ℕ) → product-lts.Need-bounds-ts-f (claims_product t)
     (product_at t) product.Post product_Inv_loop product_μ_loop
 product_shared_slice_read_close t c =
-    let at_if1 = c.before.before.before in
-    at_if1.before.level-at.ensures.1 (omega (arith, at_if1.if1.false))
+    c.level_at.ensures.1 (omega (arith, c.if-mark_at-m.false))
 
-product_cast_close : (t : ℕ) → product-lts.Need-overflow-cast-close (claims_product t) (product_at t) product.Post
+product_cast_close : (t : ℕ) → product-lts.Need-overflow_cast-ts (claims_product t) (product_at t) product.Post
     product_Inv_loop product_μ_loop
 product_cast_close t c = omega arith
 
-product_close_requires : (t : ℕ) → product-lts.Need-close-requires (claims_product t) (product_at t) product.Post
+product_close_requires : (t : ℕ) → product-lts.Need-close-r-requires (claims_product t) (product_at t) product.Post
     product_Inv_loop product_μ_loop
 product_close_requires t c κs =
-    let at_operand2 = c.before.before in
-    let at_r = at_operand2.before.before.before.before.before in
-    let at_loop = at_r.before.before in
-    let at_operand = at_loop.before in
-    let at_entry_lem = at_operand.before.before.before in
-    let long = at_operand2.operand2.ensures.1.1 in (
-      level_closable _ _ _ (so_far at_entry_lem.args.out.now at_loop.loop.invariant at_operand.operand.ensures.0
-          at_operand.operand.ensures.1 at_entry_lem.requires.1) at_r.r.given.1 at_operand2.operand2.result
-          at_operand2.operand2.new.1.1.0 long at_operand2.operand2.ensures.1.0,
+    let long = c.operand-r-in-loop-r.ensures.1.1 in (
+      level_closable _ _ _ (so_far c.args.out.now c.loop-r.invariant c.operand-r.ensures.0
+          c.operand-r.ensures.1 c.requires.1) c.in-Done.is c.operand-r-in-loop-r.result
+          c.operand-r-in-loop-r.new.1.1.0 long c.operand-r-in-loop-r.ensures.1.0,
       omega arith,
     )
 
-product_loop_less : (t : ℕ) → product-lts.Need-loop-smaller (claims_product t) (product_at t) product.Post
+product_loop_less : (t : ℕ) → product-lts.Need-loop-r-smaller (claims_product t) (product_at t) product.Post
     product_Inv_loop product_μ_loop
 product_loop_less t c =
-    let at_operand2 = c.before.before.before in
-    let at_if1 = at_operand2.before.before in
-    let at_r = at_if1.before.before.before in
-    let at_loop = at_r.before.before in
-    let at_entry_lem = at_loop.before.before.before.before in
-    let h = at_if1.before.level-at.ensures.1 (omega (arith, at_if1.if1.false)) in
-    level_less (length at_entry_lem.args.ts.now) _ _ _ at_loop.loop.r at_operand2.operand2.result
-    c.close.result at_r.r.given.1 h at_operand2.operand2.ensures.1.0 c.close.ensures.0
+    let h = c.level_at.ensures.1 (omega (arith, c.if-mark_at-m.false)) in
+    level_less (length c.args.ts.now) _ _ _ c.loop-r.r-1 c.operand-r-in-loop-r.result
+    c.close-r.result c.in-Done.is h c.operand-r-in-loop-r.ensures.1.0 c.close-r.ensures.0
 
-product_loop_again : (t : ℕ) → product-lts.Need-loop-preserved (claims_product t) (product_at t) product.Post
+product_loop_again : (t : ℕ) → product-lts.Need-loop-r-preserved (claims_product t) (product_at t) product.Post
     product_Inv_loop product_μ_loop
 product_loop_again t c o u =
-    let at_operand2 = c.before.before.before in
-    let at_if1 = at_operand2.before.before in
-    let at_level_at = at_if1.before in
-    let at_r = at_level_at.before.before in
-    let h = at_level_at.level-at.ensures.1 (omega (arith, at_if1.if1.false)) in
-    let long = at_operand2.operand2.ensures.1.1 in
-    level_turn _ _ _ (at_r.before.before.loop.invariant o u) at_r.r.given.1 at_operand2.operand2.result
-    at_operand2.operand2.new.1.1.0 (sym at_level_at.level-at.ensures.0 ∙ at_if1.if1.false) h
-    at_operand2.operand2.ensures.0 at_operand2.operand2.ensures.1.0 long c.close.result
-    c.close.new.1.1.1.1.0 c.close.ensures.0 c.close.ensures.1
-    (c.close.auto.1.1.1.1.0 ∙ long)
+    let h = c.level_at.ensures.1 (omega (arith, c.if-mark_at-m.false)) in
+    let long = c.operand-r-in-loop-r.ensures.1.1 in
+    level_turn _ _ _ (c.loop-r.invariant o u) c.in-Done.is c.operand-r-in-loop-r.result
+    c.operand-r-in-loop-r.new.1.1.0 (sym c.level_at.ensures.0 ∙ c.if-mark_at-m.false) h
+    c.operand-r-in-loop-r.ensures.0 c.operand-r-in-loop-r.ensures.1.0 long c.close-r.result
+    c.close-r.new.1.1.1.1.0 c.close-r.ensures.0 c.close-r.ensures.1
+    (c.close-r.auto.1.1.1.1.0 ∙ long)
 
 -- ---- the level of sums
 
-sum_product_requires : (t : ℕ) → sum-lts.Need-product-requires (claims_sum t) (sum_at t) sum.Post sum_Inv_loop
+sum_product_requires : (t : ℕ) → sum-lts.Need-product-r-requires (claims_sum t) (sum_at t) sum.Post sum_Inv_loop
     sum_μ_loop
-sum_product_requires t c κs = (omega (arith, c.before.before.requires.0), (omega arith, (omega arith, omega arith)))
+sum_product_requires t c κs = (omega (arith, c.requires.0), (omega arith, (omega arith, omega arith)))
 
-sum_loop_holds : (t : ℕ) → sum-lts.Need-loop-init (claims_sum t) (sum_at t) sum.Post sum_Inv_loop sum_μ_loop
+sum_loop_holds : (t : ℕ) → sum-lts.Need-loop-r-init (claims_sum t) (sum_at t) sum.Post sum_Inv_loop sum_μ_loop
 sum_loop_holds t c o u = u
 
-sum_enum_known_r : (t : ℕ) → sum-lts.Need-enum-known-r (claims_sum t) (sum_at t) sum.Post sum_Inv_loop sum_μ_loop
+sum_enum_known_r : (t : ℕ) → sum-lts.Need-enum_known-r (claims_sum t) (sum_at t) sum.Post sum_Inv_loop sum_μ_loop
 sum_enum_known_r t c = search rules
 
-sum_enum_told : (t : ℕ) → sum-lts.Need-enum-told (claims_sum t) (sum_at t) sum.Post sum_Inv_loop sum_μ_loop
+sum_enum_told : (t : ℕ) → sum-lts.Need-enum_told-1 (claims_sum t) (sum_at t) sum.Post sum_Inv_loop sum_μ_loop
 sum_enum_told t c = search rules
 
-sum_returns : (t : ℕ) → sum-lts.Need-returns (claims_sum t) (sum_at t) sum.Post sum_Inv_loop sum_μ_loop
+sum_returns : (t : ℕ) → sum-lts.Need-returns-in_default (claims_sum t) (sum_at t) sum.Post sum_Inv_loop sum_μ_loop
 sum_returns t c =
-    let at_loop = c.before.before in
-    let at_product = at_loop.before in
-    let at_entry_lem = at_product.before.before.before in
-    level_fault (so_far at_entry_lem.args.out.now at_loop.loop.invariant at_product.product.ensures.0
-    at_product.product.ensures.1 at_entry_lem.requires.1) c.enum_told.given.1
+    level_fault (so_far c.args.out.now c.loop-r.invariant c.product-r.ensures.0
+    c.product-r.ensures.1 c.requires.1) c.in_default.is
 
-sum_level_at_requires : (t : ℕ) → sum-lts.Need-level-at-requires (claims_sum t) (sum_at t) sum.Post sum_Inv_loop
+sum_level_at_requires : (t : ℕ) → sum-lts.Need-level_at-requires (claims_sum t) (sum_at t) sum.Post sum_Inv_loop
     sum_μ_loop
 sum_level_at_requires t c κs = search rules
 
-sum_returns_2 : (t : ℕ) → sum-lts.Need-returns-2 (claims_sum t) (sum_at t) sum.Post sum_Inv_loop sum_μ_loop
+sum_returns_2 : (t : ℕ) → sum-lts.Need-returns-then-mark_at-m (claims_sum t) (sum_at t) sum.Post sum_Inv_loop sum_μ_loop
 sum_returns_2 t c =
-    let at_r = c.before.before.before in
-    let at_loop = at_r.before.before in
-    let at_product = at_loop.before in
-    let at_entry_lem = at_product.before.before.before in
-    level_end _ _ _ (so_far at_entry_lem.args.out.now at_loop.loop.invariant at_product.product.ensures.0
-    at_product.product.ensures.1 at_entry_lem.requires.1) at_r.r.given.1
-    (λ e. c.if1.true (c.before.level-at.ensures.0 ∙ e))
+    level_end _ _ _ (so_far c.args.out.now c.loop-r.invariant c.product-r.ensures.0
+    c.product-r.ensures.1 c.requires.1) c.in-Done.is
+    (λ e. c.if-mark_at-m.true (c.level_at.ensures.0 ∙ e))
 
-sum_add_product : (t : ℕ) → sum-lts.Need-overflow-add-product (claims_sum t) (sum_at t) sum.Post sum_Inv_loop sum_μ_loop
+sum_add_product : (t : ℕ) → sum-lts.Need-overflow_add-f (claims_sum t) (sum_at t) sum.Post sum_Inv_loop sum_μ_loop
 sum_add_product t c =
-    let h = c.before.level-at.ensures.1 (omega (arith, c.if1.false)) in
+    let h = c.level_at.ensures.1 (omega (arith, c.if-mark_at-m.false)) in
     omega arith
 
-sum_product_requires_2 : (t : ℕ) → sum-lts.Need-product-requires-2 (claims_sum t) (sum_at t) sum.Post sum_Inv_loop
+sum_product_requires_2 : (t : ℕ) → sum-lts.Need-product-r-requires-in-loop-r (claims_sum t) (sum_at t) sum.Post sum_Inv_loop
     sum_μ_loop
 sum_product_requires_2 t c κs =
-    let at_level_at = c.before.before in
-    let at_r = at_level_at.before.before in
-    let at_loop = at_r.before.before in
-    let at_product = at_loop.before in
-    let at_entry_lem = at_product.before.before.before in
-    let h = at_level_at.level-at.ensures.1 (omega (arith, c.before.if1.false)) in
-    let u = so_far at_entry_lem.args.out.now at_loop.loop.invariant at_product.product.ensures.0
-    at_product.product.ensures.1 at_entry_lem.requires.1 in
-    let w = level_ahead _ _ _ u at_r.r.given.1 in
-    (omega (arith, at_entry_lem.requires.0), (next_room _ _ _ u at_r.r.given.1, (u.few, u.kept)))
+    let h = c.level_at.ensures.1 (omega (arith, c.if-mark_at-m.false)) in
+    let u = so_far c.args.out.now c.loop-r.invariant c.product-r.ensures.0
+    c.product-r.ensures.1 c.requires.1 in
+    let w = level_ahead _ _ _ u c.in-Done.is in
+    (omega (arith, c.requires.0), (next_room _ _ _ u c.in-Done.is, (u.few, u.kept)))
 
-sum_mul_close : (t : ℕ) → sum-lts.Need-overflow-mul-close (claims_sum t) (sum_at t) sum.Post sum_Inv_loop sum_μ_loop
+sum_mul_close : (t : ℕ) → sum-lts.Need-offset_bounds-ts-f (claims_sum t) (sum_at t) sum.Post sum_Inv_loop sum_μ_loop
 sum_mul_close t c =
-    let at_if1 = c.before.before in
-    let at_level_at = at_if1.before in
-    let at_entry_lem = at_level_at.before.before.before.before.before.before.before.before in
-    let h = at_level_at.level-at.ensures.1 (omega (arith, at_if1.if1.false)) in
-    omega (arith, at_entry_lem.requires.1.1.0)
+    let h = c.level_at.ensures.1 (omega (arith, c.if-mark_at-m.false)) in
+    omega (arith, c.requires.1.1.0)
 
-sum_shared_slice_read_close : (t : ℕ) → sum-lts.Need-shared-slice-read-close (claims_sum t) (sum_at t) sum.Post
+sum_shared_slice_read_close : (t : ℕ) → sum-lts.Need-bounds-ts-f (claims_sum t) (sum_at t) sum.Post
     sum_Inv_loop sum_μ_loop
 sum_shared_slice_read_close t c =
-    let at_if1 = c.before.before.before in
-    at_if1.before.level-at.ensures.1 (omega (arith, at_if1.if1.false))
+    c.level_at.ensures.1 (omega (arith, c.if-mark_at-m.false))
 
-sum_cast_close : (t : ℕ) → sum-lts.Need-overflow-cast-close (claims_sum t) (sum_at t) sum.Post sum_Inv_loop sum_μ_loop
+sum_cast_close : (t : ℕ) → sum-lts.Need-overflow_cast-ts (claims_sum t) (sum_at t) sum.Post sum_Inv_loop sum_μ_loop
 sum_cast_close t c = omega arith
 
-sum_close_requires : (t : ℕ) → sum-lts.Need-close-requires (claims_sum t) (sum_at t) sum.Post sum_Inv_loop sum_μ_loop
+sum_close_requires : (t : ℕ) → sum-lts.Need-close-r-requires (claims_sum t) (sum_at t) sum.Post sum_Inv_loop sum_μ_loop
 sum_close_requires t c κs =
-    let at_product2 = c.before.before in
-    let at_r = at_product2.before.before.before.before.before in
-    let at_loop = at_r.before.before in
-    let at_product = at_loop.before in
-    let at_entry_lem = at_product.before.before.before in
-    let long = at_product2.product2.ensures.1.1 in (
-      level_closable _ _ _ (so_far at_entry_lem.args.out.now at_loop.loop.invariant at_product.product.ensures.0
-          at_product.product.ensures.1 at_entry_lem.requires.1) at_r.r.given.1 at_product2.product2.result
-          at_product2.product2.new.1.1.0 long at_product2.product2.ensures.1.0,
+    let long = c.product-r-in-loop-r.ensures.1.1 in (
+      level_closable _ _ _ (so_far c.args.out.now c.loop-r.invariant c.product-r.ensures.0
+          c.product-r.ensures.1 c.requires.1) c.in-Done.is c.product-r-in-loop-r.result
+          c.product-r-in-loop-r.new.1.1.0 long c.product-r-in-loop-r.ensures.1.0,
       omega arith,
     )
 
-sum_loop_less : (t : ℕ) → sum-lts.Need-loop-smaller (claims_sum t) (sum_at t) sum.Post sum_Inv_loop sum_μ_loop
+sum_loop_less : (t : ℕ) → sum-lts.Need-loop-r-smaller (claims_sum t) (sum_at t) sum.Post sum_Inv_loop sum_μ_loop
 sum_loop_less t c =
-    let at_product2 = c.before.before.before in
-    let at_if1 = at_product2.before.before in
-    let at_r = at_if1.before.before.before in
-    let at_loop = at_r.before.before in
-    let at_entry_lem = at_loop.before.before.before.before in
-    let h = at_if1.before.level-at.ensures.1 (omega (arith, at_if1.if1.false)) in
-    level_less (length at_entry_lem.args.ts.now) _ _ _ at_loop.loop.r at_product2.product2.result
-    c.close.result at_r.r.given.1 h at_product2.product2.ensures.1.0 c.close.ensures.0
+    let h = c.level_at.ensures.1 (omega (arith, c.if-mark_at-m.false)) in
+    level_less (length c.args.ts.now) _ _ _ c.loop-r.r-1 c.product-r-in-loop-r.result
+    c.close-r.result c.in-Done.is h c.product-r-in-loop-r.ensures.1.0 c.close-r.ensures.0
 
-sum_loop_again : (t : ℕ) → sum-lts.Need-loop-preserved (claims_sum t) (sum_at t) sum.Post sum_Inv_loop sum_μ_loop
+sum_loop_again : (t : ℕ) → sum-lts.Need-loop-r-preserved (claims_sum t) (sum_at t) sum.Post sum_Inv_loop sum_μ_loop
 sum_loop_again t c o u =
-    let at_product2 = c.before.before.before in
-    let at_if1 = at_product2.before.before in
-    let at_level_at = at_if1.before in
-    let at_r = at_level_at.before.before in
-    let h = at_level_at.level-at.ensures.1 (omega (arith, at_if1.if1.false)) in
-    let long = at_product2.product2.ensures.1.1 in
-    level_turn _ _ _ (at_r.before.before.loop.invariant o u) at_r.r.given.1 at_product2.product2.result
-    at_product2.product2.new.1.1.0 (sym at_level_at.level-at.ensures.0 ∙ at_if1.if1.false) h
-    at_product2.product2.ensures.0 at_product2.product2.ensures.1.0 long c.close.result
-    c.close.new.1.1.1.1.0 c.close.ensures.0 c.close.ensures.1
-    (c.close.auto.1.1.1.1.0 ∙ long)
+    let h = c.level_at.ensures.1 (omega (arith, c.if-mark_at-m.false)) in
+    let long = c.product-r-in-loop-r.ensures.1.1 in
+    level_turn _ _ _ (c.loop-r.invariant o u) c.in-Done.is c.product-r-in-loop-r.result
+    c.product-r-in-loop-r.new.1.1.0 (sym c.level_at.ensures.0 ∙ c.if-mark_at-m.false) h
+    c.product-r-in-loop-r.ensures.0 c.product-r-in-loop-r.ensures.1.0 long c.close-r.result
+    c.close-r.new.1.1.1.1.0 c.close-r.ensures.0 c.close-r.ensures.1
+    (c.close-r.auto.1.1.1.1.0 ∙ long)
 
 -- ---- the level of orderings
 
-ordering_sum_requires : (t : ℕ) → ordering-lts.Need-sum-requires (claims_ordering t) (ordering_at t) ordering.Post
+ordering_sum_requires : (t : ℕ) → ordering-lts.Need-sum-r-requires (claims_ordering t) (ordering_at t) ordering.Post
     ordering_Inv_loop ordering_μ_loop
-ordering_sum_requires t c κs = (omega (arith, c.before.before.requires.0), (omega arith, (omega arith, omega arith)))
+ordering_sum_requires t c κs = (omega (arith, c.requires.0), (omega arith, (omega arith, omega arith)))
 
-ordering_loop_holds : (t : ℕ) → ordering-lts.Need-loop-init (claims_ordering t) (ordering_at t) ordering.Post
+ordering_loop_holds : (t : ℕ) → ordering-lts.Need-loop-r-init (claims_ordering t) (ordering_at t) ordering.Post
     ordering_Inv_loop ordering_μ_loop
 ordering_loop_holds t c o u = u
 
-ordering_enum_known_r : (t : ℕ) → ordering-lts.Need-enum-known-r (claims_ordering t) (ordering_at t) ordering.Post
+ordering_enum_known_r : (t : ℕ) → ordering-lts.Need-enum_known-r (claims_ordering t) (ordering_at t) ordering.Post
     ordering_Inv_loop ordering_μ_loop
 ordering_enum_known_r t c = search rules
 
-ordering_enum_told : (t : ℕ) → ordering-lts.Need-enum-told (claims_ordering t) (ordering_at t) ordering.Post
+ordering_enum_told : (t : ℕ) → ordering-lts.Need-enum_told-1 (claims_ordering t) (ordering_at t) ordering.Post
     ordering_Inv_loop ordering_μ_loop
 ordering_enum_told t c = search rules
 
-ordering_returns : (t : ℕ) → ordering-lts.Need-returns (claims_ordering t) (ordering_at t) ordering.Post
+ordering_returns : (t : ℕ) → ordering-lts.Need-returns-in_default (claims_ordering t) (ordering_at t) ordering.Post
     ordering_Inv_loop ordering_μ_loop
 ordering_returns t c =
-    let at_loop = c.before.before in
-    let at_sum = at_loop.before in
-    let at_entry_lem = at_sum.before.before.before in
-    level_fault (so_far at_entry_lem.args.out.now at_loop.loop.invariant at_sum.sum.ensures.0
-    at_sum.sum.ensures.1 at_entry_lem.requires.1) c.enum_told.given.1
+    level_fault (so_far c.args.out.now c.loop-r.invariant c.sum-r.ensures.0
+    c.sum-r.ensures.1 c.requires.1) c.in_default.is
 
-ordering_level_at_requires : (t : ℕ) → ordering-lts.Need-level-at-requires (claims_ordering t) (ordering_at t)
+ordering_level_at_requires : (t : ℕ) → ordering-lts.Need-level_at-requires (claims_ordering t) (ordering_at t)
     ordering.Post ordering_Inv_loop ordering_μ_loop
 ordering_level_at_requires t c κs = search rules
 
-ordering_returns_2 : (t : ℕ) → ordering-lts.Need-returns-2 (claims_ordering t) (ordering_at t) ordering.Post
+ordering_returns_2 : (t : ℕ) → ordering-lts.Need-returns-then-mark_at-m (claims_ordering t) (ordering_at t) ordering.Post
     ordering_Inv_loop ordering_μ_loop
 ordering_returns_2 t c =
-    let at_r = c.before.before.before in
-    let at_loop = at_r.before.before in
-    let at_sum = at_loop.before in
-    let at_entry_lem = at_sum.before.before.before in
-    level_end _ _ _ (so_far at_entry_lem.args.out.now at_loop.loop.invariant at_sum.sum.ensures.0
-    at_sum.sum.ensures.1 at_entry_lem.requires.1) at_r.r.given.1
-    (λ e. c.if1.true (c.before.level-at.ensures.0 ∙ e))
+    level_end _ _ _ (so_far c.args.out.now c.loop-r.invariant c.sum-r.ensures.0
+    c.sum-r.ensures.1 c.requires.1) c.in-Done.is
+    (λ e. c.if-mark_at-m.true (c.level_at.ensures.0 ∙ e))
 
-ordering_add_sum : (t : ℕ) → ordering-lts.Need-overflow-add-sum (claims_ordering t) (ordering_at t) ordering.Post
+ordering_add_sum : (t : ℕ) → ordering-lts.Need-overflow_add-f (claims_ordering t) (ordering_at t) ordering.Post
     ordering_Inv_loop ordering_μ_loop
 ordering_add_sum t c =
-    let h = c.before.level-at.ensures.1 (omega (arith, c.if1.false)) in
+    let h = c.level_at.ensures.1 (omega (arith, c.if-mark_at-m.false)) in
     omega arith
 
-ordering_sum_requires_2 : (t : ℕ) → ordering-lts.Need-sum-requires-2 (claims_ordering t) (ordering_at t)
+ordering_sum_requires_2 : (t : ℕ) → ordering-lts.Need-sum-r-requires-in-loop-r (claims_ordering t) (ordering_at t)
     ordering.Post ordering_Inv_loop ordering_μ_loop
 ordering_sum_requires_2 t c κs =
-    let at_level_at = c.before.before in
-    let at_r = at_level_at.before.before in
-    let at_loop = at_r.before.before in
-    let at_sum = at_loop.before in
-    let at_entry_lem = at_sum.before.before.before in
-    let h = at_level_at.level-at.ensures.1 (omega (arith, c.before.if1.false)) in
-    let u = so_far at_entry_lem.args.out.now at_loop.loop.invariant at_sum.sum.ensures.0
-    at_sum.sum.ensures.1 at_entry_lem.requires.1 in
-    let w = level_ahead _ _ _ u at_r.r.given.1 in
-    (omega (arith, at_entry_lem.requires.0), (next_room _ _ _ u at_r.r.given.1, (u.few, u.kept)))
+    let h = c.level_at.ensures.1 (omega (arith, c.if-mark_at-m.false)) in
+    let u = so_far c.args.out.now c.loop-r.invariant c.sum-r.ensures.0
+    c.sum-r.ensures.1 c.requires.1 in
+    let w = level_ahead _ _ _ u c.in-Done.is in
+    (omega (arith, c.requires.0), (next_room _ _ _ u c.in-Done.is, (u.few, u.kept)))
 
-ordering_mul_close : (t : ℕ) → ordering-lts.Need-overflow-mul-close (claims_ordering t) (ordering_at t) ordering.Post
+ordering_mul_close : (t : ℕ) → ordering-lts.Need-offset_bounds-ts-f (claims_ordering t) (ordering_at t) ordering.Post
     ordering_Inv_loop ordering_μ_loop
 ordering_mul_close t c =
-    let at_if1 = c.before.before in
-    let at_level_at = at_if1.before in
-    let at_entry_lem = at_level_at.before.before.before.before.before.before.before.before in
-    let h = at_level_at.level-at.ensures.1 (omega (arith, at_if1.if1.false)) in
-    omega (arith, at_entry_lem.requires.1.1.0)
+    let h = c.level_at.ensures.1 (omega (arith, c.if-mark_at-m.false)) in
+    omega (arith, c.requires.1.1.0)
 
-ordering_shared_slice_read_close : (t : ℕ) → ordering-lts.Need-shared-slice-read-close (claims_ordering t)
+ordering_shared_slice_read_close : (t : ℕ) → ordering-lts.Need-bounds-ts-f (claims_ordering t)
     (ordering_at t) ordering.Post ordering_Inv_loop ordering_μ_loop
 ordering_shared_slice_read_close t c =
-    let at_if1 = c.before.before.before in
-    at_if1.before.level-at.ensures.1 (omega (arith, at_if1.if1.false))
+    c.level_at.ensures.1 (omega (arith, c.if-mark_at-m.false))
 
-ordering_cast_close : (t : ℕ) → ordering-lts.Need-overflow-cast-close (claims_ordering t) (ordering_at t) ordering.Post
+ordering_cast_close : (t : ℕ) → ordering-lts.Need-overflow_cast-ts (claims_ordering t) (ordering_at t) ordering.Post
     ordering_Inv_loop ordering_μ_loop
 ordering_cast_close t c = omega arith
 
-ordering_close_requires : (t : ℕ) → ordering-lts.Need-close-requires (claims_ordering t) (ordering_at t)
+ordering_close_requires : (t : ℕ) → ordering-lts.Need-close-r-requires (claims_ordering t) (ordering_at t)
     ordering.Post ordering_Inv_loop ordering_μ_loop
 ordering_close_requires t c κs =
-    let at_sum2 = c.before.before in
-    let at_r = at_sum2.before.before.before.before.before in
-    let at_loop = at_r.before.before in
-    let at_sum = at_loop.before in
-    let at_entry_lem = at_sum.before.before.before in
-    let long = at_sum2.sum2.ensures.1.1 in (
-      level_closable _ _ _ (so_far at_entry_lem.args.out.now at_loop.loop.invariant at_sum.sum.ensures.0
-          at_sum.sum.ensures.1 at_entry_lem.requires.1) at_r.r.given.1 at_sum2.sum2.result
-          at_sum2.sum2.new.1.1.0 long at_sum2.sum2.ensures.1.0,
+    let long = c.sum-r-in-loop-r.ensures.1.1 in (
+      level_closable _ _ _ (so_far c.args.out.now c.loop-r.invariant c.sum-r.ensures.0
+          c.sum-r.ensures.1 c.requires.1) c.in-Done.is c.sum-r-in-loop-r.result
+          c.sum-r-in-loop-r.new.1.1.0 long c.sum-r-in-loop-r.ensures.1.0,
       omega arith,
     )
 
-ordering_loop_less : (t : ℕ) → ordering-lts.Need-loop-smaller (claims_ordering t) (ordering_at t) ordering.Post
+ordering_loop_less : (t : ℕ) → ordering-lts.Need-loop-r-smaller (claims_ordering t) (ordering_at t) ordering.Post
     ordering_Inv_loop ordering_μ_loop
 ordering_loop_less t c =
-    let at_sum2 = c.before.before.before in
-    let at_if1 = at_sum2.before.before in
-    let at_r = at_if1.before.before.before in
-    let at_loop = at_r.before.before in
-    let at_entry_lem = at_loop.before.before.before.before in
-    let h = at_if1.before.level-at.ensures.1 (omega (arith, at_if1.if1.false)) in
-    level_less (length at_entry_lem.args.ts.now) _ _ _ at_loop.loop.r at_sum2.sum2.result c.close.result
-    at_r.r.given.1 h at_sum2.sum2.ensures.1.0 c.close.ensures.0
+    let h = c.level_at.ensures.1 (omega (arith, c.if-mark_at-m.false)) in
+    level_less (length c.args.ts.now) _ _ _ c.loop-r.r-1 c.sum-r-in-loop-r.result c.close-r.result
+    c.in-Done.is h c.sum-r-in-loop-r.ensures.1.0 c.close-r.ensures.0
 
-ordering_loop_again : (t : ℕ) → ordering-lts.Need-loop-preserved (claims_ordering t) (ordering_at t) ordering.Post
+ordering_loop_again : (t : ℕ) → ordering-lts.Need-loop-r-preserved (claims_ordering t) (ordering_at t) ordering.Post
     ordering_Inv_loop ordering_μ_loop
 ordering_loop_again t c o u =
-    let at_sum2 = c.before.before.before in
-    let at_if1 = at_sum2.before.before in
-    let at_level_at = at_if1.before in
-    let at_r = at_level_at.before.before in
-    let h = at_level_at.level-at.ensures.1 (omega (arith, at_if1.if1.false)) in
-    let long = at_sum2.sum2.ensures.1.1 in
-    level_turn _ _ _ (at_r.before.before.loop.invariant o u) at_r.r.given.1 at_sum2.sum2.result
-    at_sum2.sum2.new.1.1.0 (sym at_level_at.level-at.ensures.0 ∙ at_if1.if1.false) h
-    at_sum2.sum2.ensures.0 at_sum2.sum2.ensures.1.0 long c.close.result
-    c.close.new.1.1.1.1.0 c.close.ensures.0 c.close.ensures.1
-    (c.close.auto.1.1.1.1.0 ∙ long)
+    let h = c.level_at.ensures.1 (omega (arith, c.if-mark_at-m.false)) in
+    let long = c.sum-r-in-loop-r.ensures.1.1 in
+    level_turn _ _ _ (c.loop-r.invariant o u) c.in-Done.is c.sum-r-in-loop-r.result
+    c.sum-r-in-loop-r.new.1.1.0 (sym c.level_at.ensures.0 ∙ c.if-mark_at-m.false) h
+    c.sum-r-in-loop-r.ensures.0 c.sum-r-in-loop-r.ensures.1.0 long c.close-r.result
+    c.close-r.new.1.1.1.1.0 c.close-r.ensures.0 c.close-r.ensures.1
+    (c.close-r.auto.1.1.1.1.0 ∙ long)
 
 -- ---- the level of equalities
 
-equality_ordering_requires : (t : ℕ) → equality-lts.Need-ordering-requires (claims_equality t) (equality_at t)
+equality_ordering_requires : (t : ℕ) → equality-lts.Need-ordering-r-requires (claims_equality t) (equality_at t)
     equality.Post equality_Inv_loop equality_μ_loop
 equality_ordering_requires t c κs =
-    (omega (arith, c.before.before.requires.0), (omega arith, (omega arith, omega arith)))
+    (omega (arith, c.requires.0), (omega arith, (omega arith, omega arith)))
 
-equality_loop_holds : (t : ℕ) → equality-lts.Need-loop-init (claims_equality t) (equality_at t) equality.Post
+equality_loop_holds : (t : ℕ) → equality-lts.Need-loop-r-init (claims_equality t) (equality_at t) equality.Post
     equality_Inv_loop equality_μ_loop
 equality_loop_holds t c o u = u
 
-equality_enum_known_r : (t : ℕ) → equality-lts.Need-enum-known-r (claims_equality t) (equality_at t) equality.Post
+equality_enum_known_r : (t : ℕ) → equality-lts.Need-enum_known-r (claims_equality t) (equality_at t) equality.Post
     equality_Inv_loop equality_μ_loop
 equality_enum_known_r t c = search rules
 
-equality_enum_told : (t : ℕ) → equality-lts.Need-enum-told (claims_equality t) (equality_at t) equality.Post
+equality_enum_told : (t : ℕ) → equality-lts.Need-enum_told-1 (claims_equality t) (equality_at t) equality.Post
     equality_Inv_loop equality_μ_loop
 equality_enum_told t c = search rules
 
-equality_returns : (t : ℕ) → equality-lts.Need-returns (claims_equality t) (equality_at t) equality.Post
+equality_returns : (t : ℕ) → equality-lts.Need-returns-in_default (claims_equality t) (equality_at t) equality.Post
     equality_Inv_loop equality_μ_loop
 equality_returns t c =
-    let at_loop = c.before.before in
-    let at_ordering = at_loop.before in
-    let at_entry_lem = at_ordering.before.before.before in
-    level_fault (so_far at_entry_lem.args.out.now at_loop.loop.invariant at_ordering.ordering.ensures.0
-    at_ordering.ordering.ensures.1 at_entry_lem.requires.1) c.enum_told.given.1
+    level_fault (so_far c.args.out.now c.loop-r.invariant c.ordering-r.ensures.0
+    c.ordering-r.ensures.1 c.requires.1) c.in_default.is
 
-equality_level_at_requires : (t : ℕ) → equality-lts.Need-level-at-requires (claims_equality t) (equality_at t)
+equality_level_at_requires : (t : ℕ) → equality-lts.Need-level_at-requires (claims_equality t) (equality_at t)
     equality.Post equality_Inv_loop equality_μ_loop
 equality_level_at_requires t c κs = search rules
 
-equality_returns_2 : (t : ℕ) → equality-lts.Need-returns-2 (claims_equality t) (equality_at t) equality.Post
+equality_returns_2 : (t : ℕ) → equality-lts.Need-returns-then-mark_at-m (claims_equality t) (equality_at t) equality.Post
     equality_Inv_loop equality_μ_loop
 equality_returns_2 t c =
-    let at_r = c.before.before.before in
-    let at_loop = at_r.before.before in
-    let at_ordering = at_loop.before in
-    let at_entry_lem = at_ordering.before.before.before in
-    level_end _ _ _ (so_far at_entry_lem.args.out.now at_loop.loop.invariant at_ordering.ordering.ensures.0
-    at_ordering.ordering.ensures.1 at_entry_lem.requires.1) at_r.r.given.1
-    (λ e. c.if1.true (c.before.level-at.ensures.0 ∙ e))
+    level_end _ _ _ (so_far c.args.out.now c.loop-r.invariant c.ordering-r.ensures.0
+    c.ordering-r.ensures.1 c.requires.1) c.in-Done.is
+    (λ e. c.if-mark_at-m.true (c.level_at.ensures.0 ∙ e))
 
-equality_add_ordering : (t : ℕ) → equality-lts.Need-overflow-add-ordering (claims_equality t) (equality_at t) equality.Post
+equality_add_ordering : (t : ℕ) → equality-lts.Need-overflow_add-f (claims_equality t) (equality_at t) equality.Post
     equality_Inv_loop equality_μ_loop
 equality_add_ordering t c =
-    let h = c.before.level-at.ensures.1 (omega (arith, c.if1.false)) in
+    let h = c.level_at.ensures.1 (omega (arith, c.if-mark_at-m.false)) in
     omega arith
 
-equality_ordering_requires_2 : (t : ℕ) → equality-lts.Need-ordering-requires-2 (claims_equality t) (equality_at t)
+equality_ordering_requires_2 : (t : ℕ) → equality-lts.Need-ordering-r-requires-in-loop-r (claims_equality t) (equality_at t)
     equality.Post equality_Inv_loop equality_μ_loop
 equality_ordering_requires_2 t c κs =
-    let at_level_at = c.before.before in
-    let at_r = at_level_at.before.before in
-    let at_loop = at_r.before.before in
-    let at_ordering = at_loop.before in
-    let at_entry_lem = at_ordering.before.before.before in
-    let h = at_level_at.level-at.ensures.1 (omega (arith, c.before.if1.false)) in
-    let u = so_far at_entry_lem.args.out.now at_loop.loop.invariant at_ordering.ordering.ensures.0
-    at_ordering.ordering.ensures.1 at_entry_lem.requires.1 in
-    let w = level_ahead _ _ _ u at_r.r.given.1 in
-    (omega (arith, at_entry_lem.requires.0), (next_room _ _ _ u at_r.r.given.1, (u.few, u.kept)))
+    let h = c.level_at.ensures.1 (omega (arith, c.if-mark_at-m.false)) in
+    let u = so_far c.args.out.now c.loop-r.invariant c.ordering-r.ensures.0
+    c.ordering-r.ensures.1 c.requires.1 in
+    let w = level_ahead _ _ _ u c.in-Done.is in
+    (omega (arith, c.requires.0), (next_room _ _ _ u c.in-Done.is, (u.few, u.kept)))
 
-equality_mul_close : (t : ℕ) → equality-lts.Need-overflow-mul-close (claims_equality t) (equality_at t) equality.Post
+equality_mul_close : (t : ℕ) → equality-lts.Need-offset_bounds-ts-f (claims_equality t) (equality_at t) equality.Post
     equality_Inv_loop equality_μ_loop
 equality_mul_close t c =
-    let at_if1 = c.before.before in
-    let at_level_at = at_if1.before in
-    let at_entry_lem = at_level_at.before.before.before.before.before.before.before.before in
-    let h = at_level_at.level-at.ensures.1 (omega (arith, at_if1.if1.false)) in
-    omega (arith, at_entry_lem.requires.1.1.0)
+    let h = c.level_at.ensures.1 (omega (arith, c.if-mark_at-m.false)) in
+    omega (arith, c.requires.1.1.0)
 
-equality_shared_slice_read_close : (t : ℕ) → equality-lts.Need-shared-slice-read-close (claims_equality t)
+equality_shared_slice_read_close : (t : ℕ) → equality-lts.Need-bounds-ts-f (claims_equality t)
     (equality_at t) equality.Post equality_Inv_loop equality_μ_loop
 equality_shared_slice_read_close t c =
-    let at_if1 = c.before.before.before in
-    at_if1.before.level-at.ensures.1 (omega (arith, at_if1.if1.false))
+    c.level_at.ensures.1 (omega (arith, c.if-mark_at-m.false))
 
-equality_cast_close : (t : ℕ) → equality-lts.Need-overflow-cast-close (claims_equality t) (equality_at t) equality.Post
+equality_cast_close : (t : ℕ) → equality-lts.Need-overflow_cast-ts (claims_equality t) (equality_at t) equality.Post
     equality_Inv_loop equality_μ_loop
 equality_cast_close t c = omega arith
 
-equality_close_requires : (t : ℕ) → equality-lts.Need-close-requires (claims_equality t) (equality_at t)
+equality_close_requires : (t : ℕ) → equality-lts.Need-close-r-requires (claims_equality t) (equality_at t)
     equality.Post equality_Inv_loop equality_μ_loop
 equality_close_requires t c κs =
-    let at_ordering2 = c.before.before in
-    let at_r = at_ordering2.before.before.before.before.before in
-    let at_loop = at_r.before.before in
-    let at_ordering = at_loop.before in
-    let at_entry_lem = at_ordering.before.before.before in
-    let long = at_ordering2.ordering2.ensures.1.1 in (
-      level_closable _ _ _ (so_far at_entry_lem.args.out.now at_loop.loop.invariant at_ordering.ordering.ensures.0
-          at_ordering.ordering.ensures.1 at_entry_lem.requires.1) at_r.r.given.1 at_ordering2.ordering2.result
-          at_ordering2.ordering2.new.1.1.0 long at_ordering2.ordering2.ensures.1.0,
+    let long = c.ordering-r-in-loop-r.ensures.1.1 in (
+      level_closable _ _ _ (so_far c.args.out.now c.loop-r.invariant c.ordering-r.ensures.0
+          c.ordering-r.ensures.1 c.requires.1) c.in-Done.is c.ordering-r-in-loop-r.result
+          c.ordering-r-in-loop-r.new.1.1.0 long c.ordering-r-in-loop-r.ensures.1.0,
       omega arith,
     )
 
-equality_loop_less : (t : ℕ) → equality-lts.Need-loop-smaller (claims_equality t) (equality_at t) equality.Post
+equality_loop_less : (t : ℕ) → equality-lts.Need-loop-r-smaller (claims_equality t) (equality_at t) equality.Post
     equality_Inv_loop equality_μ_loop
 equality_loop_less t c =
-    let at_ordering2 = c.before.before.before in
-    let at_if1 = at_ordering2.before.before in
-    let at_r = at_if1.before.before.before in
-    let at_loop = at_r.before.before in
-    let at_entry_lem = at_loop.before.before.before.before in
-    let h = at_if1.before.level-at.ensures.1 (omega (arith, at_if1.if1.false)) in
-    level_less (length at_entry_lem.args.ts.now) _ _ _ at_loop.loop.r at_ordering2.ordering2.result
-    c.close.result at_r.r.given.1 h at_ordering2.ordering2.ensures.1.0 c.close.ensures.0
+    let h = c.level_at.ensures.1 (omega (arith, c.if-mark_at-m.false)) in
+    level_less (length c.args.ts.now) _ _ _ c.loop-r.r-1 c.ordering-r-in-loop-r.result
+    c.close-r.result c.in-Done.is h c.ordering-r-in-loop-r.ensures.1.0 c.close-r.ensures.0
 
-equality_loop_again : (t : ℕ) → equality-lts.Need-loop-preserved (claims_equality t) (equality_at t) equality.Post
+equality_loop_again : (t : ℕ) → equality-lts.Need-loop-r-preserved (claims_equality t) (equality_at t) equality.Post
     equality_Inv_loop equality_μ_loop
 equality_loop_again t c o u =
-    let at_ordering2 = c.before.before.before in
-    let at_if1 = at_ordering2.before.before in
-    let at_level_at = at_if1.before in
-    let at_r = at_level_at.before.before in
-    let h = at_level_at.level-at.ensures.1 (omega (arith, at_if1.if1.false)) in
-    let long = at_ordering2.ordering2.ensures.1.1 in
-    level_turn _ _ _ (at_r.before.before.loop.invariant o u) at_r.r.given.1 at_ordering2.ordering2.result
-    at_ordering2.ordering2.new.1.1.0 (sym at_level_at.level-at.ensures.0 ∙ at_if1.if1.false) h
-    at_ordering2.ordering2.ensures.0 at_ordering2.ordering2.ensures.1.0 long c.close.result
-    c.close.new.1.1.1.1.0 c.close.ensures.0 c.close.ensures.1
-    (c.close.auto.1.1.1.1.0 ∙ long)
+    let h = c.level_at.ensures.1 (omega (arith, c.if-mark_at-m.false)) in
+    let long = c.ordering-r-in-loop-r.ensures.1.1 in
+    level_turn _ _ _ (c.loop-r.invariant o u) c.in-Done.is c.ordering-r-in-loop-r.result
+    c.ordering-r-in-loop-r.new.1.1.0 (sym c.level_at.ensures.0 ∙ c.if-mark_at-m.false) h
+    c.ordering-r-in-loop-r.ensures.0 c.ordering-r-in-loop-r.ensures.1.0 long c.close-r.result
+    c.close-r.new.1.1.1.1.0 c.close-r.ensures.0 c.close-r.ensures.1
+    (c.close-r.auto.1.1.1.1.0 ∙ long)
 
 -- ---- the level of conjunctions
 
-conjunction_equality_requires : (t : ℕ) → conjunction-lts.Need-equality-requires (claims_conjunction t)
+conjunction_equality_requires : (t : ℕ) → conjunction-lts.Need-equality-r-requires (claims_conjunction t)
     (conjunction_at t) conjunction.Post conjunction_Inv_loop conjunction_μ_loop
 conjunction_equality_requires t c κs =
-    (omega (arith, c.before.before.requires.0), (omega arith, (omega arith, omega arith)))
+    (omega (arith, c.requires.0), (omega arith, (omega arith, omega arith)))
 
-conjunction_loop_holds : (t : ℕ) → conjunction-lts.Need-loop-init (claims_conjunction t) (conjunction_at t)
+conjunction_loop_holds : (t : ℕ) → conjunction-lts.Need-loop-r-init (claims_conjunction t) (conjunction_at t)
     conjunction.Post conjunction_Inv_loop conjunction_μ_loop
 conjunction_loop_holds t c o u = u
 
-conjunction_enum_known_r : (t : ℕ) → conjunction-lts.Need-enum-known-r (claims_conjunction t) (conjunction_at t)
+conjunction_enum_known_r : (t : ℕ) → conjunction-lts.Need-enum_known-r (claims_conjunction t) (conjunction_at t)
     conjunction.Post conjunction_Inv_loop conjunction_μ_loop
 conjunction_enum_known_r t c = search rules
 
-conjunction_enum_told : (t : ℕ) → conjunction-lts.Need-enum-told (claims_conjunction t) (conjunction_at t)
+conjunction_enum_told : (t : ℕ) → conjunction-lts.Need-enum_told-1 (claims_conjunction t) (conjunction_at t)
     conjunction.Post conjunction_Inv_loop conjunction_μ_loop
 conjunction_enum_told t c = search rules
 
-conjunction_returns : (t : ℕ) → conjunction-lts.Need-returns (claims_conjunction t) (conjunction_at t)
+conjunction_returns : (t : ℕ) → conjunction-lts.Need-returns-in_default (claims_conjunction t) (conjunction_at t)
     conjunction.Post conjunction_Inv_loop conjunction_μ_loop
 conjunction_returns t c =
-    let at_loop = c.before.before in
-    let at_equality = at_loop.before in
-    let at_entry_lem = at_equality.before.before.before in
-    level_fault (so_far at_entry_lem.args.out.now at_loop.loop.invariant at_equality.equality.ensures.0
-    at_equality.equality.ensures.1 at_entry_lem.requires.1) c.enum_told.given.1
+    level_fault (so_far c.args.out.now c.loop-r.invariant c.equality-r.ensures.0
+    c.equality-r.ensures.1 c.requires.1) c.in_default.is
 
-conjunction_level_at_requires : (t : ℕ) → conjunction-lts.Need-level-at-requires (claims_conjunction t)
+conjunction_level_at_requires : (t : ℕ) → conjunction-lts.Need-level_at-requires (claims_conjunction t)
     (conjunction_at t) conjunction.Post conjunction_Inv_loop conjunction_μ_loop
 conjunction_level_at_requires t c κs = search rules
 
-conjunction_returns_2 : (t : ℕ) → conjunction-lts.Need-returns-2 (claims_conjunction t) (conjunction_at t)
+conjunction_returns_2 : (t : ℕ) → conjunction-lts.Need-returns-then-mark_at-m (claims_conjunction t) (conjunction_at t)
     conjunction.Post conjunction_Inv_loop conjunction_μ_loop
 conjunction_returns_2 t c =
-    let at_r = c.before.before.before in
-    let at_loop = at_r.before.before in
-    let at_equality = at_loop.before in
-    let at_entry_lem = at_equality.before.before.before in
-    level_end _ _ _ (so_far at_entry_lem.args.out.now at_loop.loop.invariant at_equality.equality.ensures.0
-    at_equality.equality.ensures.1 at_entry_lem.requires.1) at_r.r.given.1
-    (λ e. c.if1.true (c.before.level-at.ensures.0 ∙ e))
+    level_end _ _ _ (so_far c.args.out.now c.loop-r.invariant c.equality-r.ensures.0
+    c.equality-r.ensures.1 c.requires.1) c.in-Done.is
+    (λ e. c.if-mark_at-m.true (c.level_at.ensures.0 ∙ e))
 
-conjunction_add_equality : (t : ℕ) → conjunction-lts.Need-overflow-add-equality (claims_conjunction t) (conjunction_at t)
+conjunction_add_equality : (t : ℕ) → conjunction-lts.Need-overflow_add-f (claims_conjunction t) (conjunction_at t)
     conjunction.Post conjunction_Inv_loop conjunction_μ_loop
 conjunction_add_equality t c =
-    let h = c.before.level-at.ensures.1 (omega (arith, c.if1.false)) in
+    let h = c.level_at.ensures.1 (omega (arith, c.if-mark_at-m.false)) in
     omega arith
 
-conjunction_equality_requires_2 : (t : ℕ) → conjunction-lts.Need-equality-requires-2 (claims_conjunction t)
+conjunction_equality_requires_2 : (t : ℕ) → conjunction-lts.Need-equality-r-requires-in-loop-r (claims_conjunction t)
     (conjunction_at t) conjunction.Post conjunction_Inv_loop conjunction_μ_loop
 conjunction_equality_requires_2 t c κs =
-    let at_level_at = c.before.before in
-    let at_r = at_level_at.before.before in
-    let at_loop = at_r.before.before in
-    let at_equality = at_loop.before in
-    let at_entry_lem = at_equality.before.before.before in
-    let h = at_level_at.level-at.ensures.1 (omega (arith, c.before.if1.false)) in
-    let u = so_far at_entry_lem.args.out.now at_loop.loop.invariant at_equality.equality.ensures.0
-    at_equality.equality.ensures.1 at_entry_lem.requires.1 in
-    let w = level_ahead _ _ _ u at_r.r.given.1 in
-    (omega (arith, at_entry_lem.requires.0), (next_room _ _ _ u at_r.r.given.1, (u.few, u.kept)))
+    let h = c.level_at.ensures.1 (omega (arith, c.if-mark_at-m.false)) in
+    let u = so_far c.args.out.now c.loop-r.invariant c.equality-r.ensures.0
+    c.equality-r.ensures.1 c.requires.1 in
+    let w = level_ahead _ _ _ u c.in-Done.is in
+    (omega (arith, c.requires.0), (next_room _ _ _ u c.in-Done.is, (u.few, u.kept)))
 
-conjunction_mul_close : (t : ℕ) → conjunction-lts.Need-overflow-mul-close (claims_conjunction t) (conjunction_at t)
+conjunction_mul_close : (t : ℕ) → conjunction-lts.Need-offset_bounds-ts-f (claims_conjunction t) (conjunction_at t)
     conjunction.Post conjunction_Inv_loop conjunction_μ_loop
 conjunction_mul_close t c =
-    let at_if1 = c.before.before in
-    let at_level_at = at_if1.before in
-    let at_entry_lem = at_level_at.before.before.before.before.before.before.before.before in
-    let h = at_level_at.level-at.ensures.1 (omega (arith, at_if1.if1.false)) in
-    omega (arith, at_entry_lem.requires.1.1.0)
+    let h = c.level_at.ensures.1 (omega (arith, c.if-mark_at-m.false)) in
+    omega (arith, c.requires.1.1.0)
 
-conjunction_shared_slice_read_close : (t : ℕ) → conjunction-lts.Need-shared-slice-read-close (claims_conjunction t)
+conjunction_shared_slice_read_close : (t : ℕ) → conjunction-lts.Need-bounds-ts-f (claims_conjunction t)
     (conjunction_at t) conjunction.Post conjunction_Inv_loop conjunction_μ_loop
 conjunction_shared_slice_read_close t c =
-    let at_if1 = c.before.before.before in
-    at_if1.before.level-at.ensures.1 (omega (arith, at_if1.if1.false))
+    c.level_at.ensures.1 (omega (arith, c.if-mark_at-m.false))
 
-conjunction_cast_close : (t : ℕ) → conjunction-lts.Need-overflow-cast-close (claims_conjunction t) (conjunction_at t)
+conjunction_cast_close : (t : ℕ) → conjunction-lts.Need-overflow_cast-ts (claims_conjunction t) (conjunction_at t)
     conjunction.Post conjunction_Inv_loop conjunction_μ_loop
 conjunction_cast_close t c = omega arith
 
-conjunction_close_requires : (t : ℕ) → conjunction-lts.Need-close-requires (claims_conjunction t) (conjunction_at t)
+conjunction_close_requires : (t : ℕ) → conjunction-lts.Need-close-r-requires (claims_conjunction t) (conjunction_at t)
     conjunction.Post conjunction_Inv_loop conjunction_μ_loop
 conjunction_close_requires t c κs =
-    let at_equality2 = c.before.before in
-    let at_r = at_equality2.before.before.before.before.before in
-    let at_loop = at_r.before.before in
-    let at_equality = at_loop.before in
-    let at_entry_lem = at_equality.before.before.before in
-    let long = at_equality2.equality2.ensures.1.1 in (
-      level_closable _ _ _ (so_far at_entry_lem.args.out.now at_loop.loop.invariant at_equality.equality.ensures.0
-          at_equality.equality.ensures.1 at_entry_lem.requires.1) at_r.r.given.1 at_equality2.equality2.result
-          at_equality2.equality2.new.1.1.0 long at_equality2.equality2.ensures.1.0,
+    let long = c.equality-r-in-loop-r.ensures.1.1 in (
+      level_closable _ _ _ (so_far c.args.out.now c.loop-r.invariant c.equality-r.ensures.0
+          c.equality-r.ensures.1 c.requires.1) c.in-Done.is c.equality-r-in-loop-r.result
+          c.equality-r-in-loop-r.new.1.1.0 long c.equality-r-in-loop-r.ensures.1.0,
       omega arith,
     )
 
-conjunction_loop_less : (t : ℕ) → conjunction-lts.Need-loop-smaller (claims_conjunction t) (conjunction_at t)
+conjunction_loop_less : (t : ℕ) → conjunction-lts.Need-loop-r-smaller (claims_conjunction t) (conjunction_at t)
     conjunction.Post conjunction_Inv_loop conjunction_μ_loop
 conjunction_loop_less t c =
-    let at_equality2 = c.before.before.before in
-    let at_if1 = at_equality2.before.before in
-    let at_r = at_if1.before.before.before in
-    let at_loop = at_r.before.before in
-    let at_entry_lem = at_loop.before.before.before.before in
-    let h = at_if1.before.level-at.ensures.1 (omega (arith, at_if1.if1.false)) in
-    level_less (length at_entry_lem.args.ts.now) _ _ _ at_loop.loop.r at_equality2.equality2.result
-    c.close.result at_r.r.given.1 h at_equality2.equality2.ensures.1.0 c.close.ensures.0
+    let h = c.level_at.ensures.1 (omega (arith, c.if-mark_at-m.false)) in
+    level_less (length c.args.ts.now) _ _ _ c.loop-r.r-1 c.equality-r-in-loop-r.result
+    c.close-r.result c.in-Done.is h c.equality-r-in-loop-r.ensures.1.0 c.close-r.ensures.0
 
-conjunction_loop_again : (t : ℕ) → conjunction-lts.Need-loop-preserved (claims_conjunction t) (conjunction_at t)
+conjunction_loop_again : (t : ℕ) → conjunction-lts.Need-loop-r-preserved (claims_conjunction t) (conjunction_at t)
     conjunction.Post conjunction_Inv_loop conjunction_μ_loop
 conjunction_loop_again t c o u =
-    let at_equality2 = c.before.before.before in
-    let at_if1 = at_equality2.before.before in
-    let at_level_at = at_if1.before in
-    let at_r = at_level_at.before.before in
-    let h = at_level_at.level-at.ensures.1 (omega (arith, at_if1.if1.false)) in
-    let long = at_equality2.equality2.ensures.1.1 in
-    level_turn _ _ _ (at_r.before.before.loop.invariant o u) at_r.r.given.1 at_equality2.equality2.result
-    at_equality2.equality2.new.1.1.0 (sym at_level_at.level-at.ensures.0 ∙ at_if1.if1.false) h
-    at_equality2.equality2.ensures.0 at_equality2.equality2.ensures.1.0 long c.close.result
-    c.close.new.1.1.1.1.0 c.close.ensures.0 c.close.ensures.1
-    (c.close.auto.1.1.1.1.0 ∙ long)
+    let h = c.level_at.ensures.1 (omega (arith, c.if-mark_at-m.false)) in
+    let long = c.equality-r-in-loop-r.ensures.1.1 in
+    level_turn _ _ _ (c.loop-r.invariant o u) c.in-Done.is c.equality-r-in-loop-r.result
+    c.equality-r-in-loop-r.new.1.1.0 (sym c.level_at.ensures.0 ∙ c.if-mark_at-m.false) h
+    c.equality-r-in-loop-r.ensures.0 c.equality-r-in-loop-r.ensures.1.0 long c.close-r.result
+    c.close-r.new.1.1.1.1.0 c.close-r.ensures.0 c.close-r.ensures.1
+    (c.close-r.auto.1.1.1.1.0 ∙ long)
 
 -- ---- the level of disjunctions
 
-disjunction_conjunction_requires : (t : ℕ) → disjunction-lts.Need-conjunction-requires (claims_disjunction t)
+disjunction_conjunction_requires : (t : ℕ) → disjunction-lts.Need-conjunction-r-requires (claims_disjunction t)
     (disjunction_at t) disjunction.Post disjunction_Inv_loop disjunction_μ_loop
 disjunction_conjunction_requires t c κs =
-    (omega (arith, c.before.before.requires.0), (omega arith, (omega arith, omega arith)))
+    (omega (arith, c.requires.0), (omega arith, (omega arith, omega arith)))
 
-disjunction_loop_holds : (t : ℕ) → disjunction-lts.Need-loop-init (claims_disjunction t) (disjunction_at t)
+disjunction_loop_holds : (t : ℕ) → disjunction-lts.Need-loop-r-init (claims_disjunction t) (disjunction_at t)
     disjunction.Post disjunction_Inv_loop disjunction_μ_loop
 disjunction_loop_holds t c o u = u
 
-disjunction_enum_known_r : (t : ℕ) → disjunction-lts.Need-enum-known-r (claims_disjunction t) (disjunction_at t)
+disjunction_enum_known_r : (t : ℕ) → disjunction-lts.Need-enum_known-r (claims_disjunction t) (disjunction_at t)
     disjunction.Post disjunction_Inv_loop disjunction_μ_loop
 disjunction_enum_known_r t c = search rules
 
-disjunction_enum_told : (t : ℕ) → disjunction-lts.Need-enum-told (claims_disjunction t) (disjunction_at t)
+disjunction_enum_told : (t : ℕ) → disjunction-lts.Need-enum_told-1 (claims_disjunction t) (disjunction_at t)
     disjunction.Post disjunction_Inv_loop disjunction_μ_loop
 disjunction_enum_told t c = search rules
 
-disjunction_returns : (t : ℕ) → disjunction-lts.Need-returns (claims_disjunction t) (disjunction_at t)
+disjunction_returns : (t : ℕ) → disjunction-lts.Need-returns-in_default (claims_disjunction t) (disjunction_at t)
     disjunction.Post disjunction_Inv_loop disjunction_μ_loop
 disjunction_returns t c =
-    let at_loop = c.before.before in
-    let at_conjunction = at_loop.before in
-    let at_entry_lem = at_conjunction.before.before.before in
-    level_fault (so_far at_entry_lem.args.out.now at_loop.loop.invariant at_conjunction.conjunction.ensures.0
-    at_conjunction.conjunction.ensures.1 at_entry_lem.requires.1) c.enum_told.given.1
+    level_fault (so_far c.args.out.now c.loop-r.invariant c.conjunction-r.ensures.0
+    c.conjunction-r.ensures.1 c.requires.1) c.in_default.is
 
-disjunction_level_at_requires : (t : ℕ) → disjunction-lts.Need-level-at-requires (claims_disjunction t)
+disjunction_level_at_requires : (t : ℕ) → disjunction-lts.Need-level_at-requires (claims_disjunction t)
     (disjunction_at t) disjunction.Post disjunction_Inv_loop disjunction_μ_loop
 disjunction_level_at_requires t c κs = search rules
 
-disjunction_returns_2 : (t : ℕ) → disjunction-lts.Need-returns-2 (claims_disjunction t) (disjunction_at t)
+disjunction_returns_2 : (t : ℕ) → disjunction-lts.Need-returns-then-mark_at-m (claims_disjunction t) (disjunction_at t)
     disjunction.Post disjunction_Inv_loop disjunction_μ_loop
 disjunction_returns_2 t c =
-    let at_r = c.before.before.before in
-    let at_loop = at_r.before.before in
-    let at_conjunction = at_loop.before in
-    let at_entry_lem = at_conjunction.before.before.before in
-    level_end _ _ _ (so_far at_entry_lem.args.out.now at_loop.loop.invariant at_conjunction.conjunction.ensures.0
-    at_conjunction.conjunction.ensures.1 at_entry_lem.requires.1) at_r.r.given.1
-    (λ e. c.if1.true (c.before.level-at.ensures.0 ∙ e))
+    level_end _ _ _ (so_far c.args.out.now c.loop-r.invariant c.conjunction-r.ensures.0
+    c.conjunction-r.ensures.1 c.requires.1) c.in-Done.is
+    (λ e. c.if-mark_at-m.true (c.level_at.ensures.0 ∙ e))
 
-disjunction_add_conjunction : (t : ℕ) → disjunction-lts.Need-overflow-add-conjunction (claims_disjunction t)
+disjunction_add_conjunction : (t : ℕ) → disjunction-lts.Need-overflow_add-f (claims_disjunction t)
     (disjunction_at t) disjunction.Post disjunction_Inv_loop disjunction_μ_loop
 disjunction_add_conjunction t c =
-    let h = c.before.level-at.ensures.1 (omega (arith, c.if1.false)) in
+    let h = c.level_at.ensures.1 (omega (arith, c.if-mark_at-m.false)) in
     omega arith
 
-disjunction_conjunction_requires_2 : (t : ℕ) → disjunction-lts.Need-conjunction-requires-2 (claims_disjunction t)
+disjunction_conjunction_requires_2 : (t : ℕ) → disjunction-lts.Need-conjunction-r-requires-in-loop-r (claims_disjunction t)
     (disjunction_at t) disjunction.Post disjunction_Inv_loop disjunction_μ_loop
 disjunction_conjunction_requires_2 t c κs =
-    let at_level_at = c.before.before in
-    let at_r = at_level_at.before.before in
-    let at_loop = at_r.before.before in
-    let at_conjunction = at_loop.before in
-    let at_entry_lem = at_conjunction.before.before.before in
-    let h = at_level_at.level-at.ensures.1 (omega (arith, c.before.if1.false)) in
-    let u = so_far at_entry_lem.args.out.now at_loop.loop.invariant at_conjunction.conjunction.ensures.0
-    at_conjunction.conjunction.ensures.1 at_entry_lem.requires.1 in
-    let w = level_ahead _ _ _ u at_r.r.given.1 in
-    (omega (arith, at_entry_lem.requires.0), (next_room _ _ _ u at_r.r.given.1, (u.few, u.kept)))
+    let h = c.level_at.ensures.1 (omega (arith, c.if-mark_at-m.false)) in
+    let u = so_far c.args.out.now c.loop-r.invariant c.conjunction-r.ensures.0
+    c.conjunction-r.ensures.1 c.requires.1 in
+    let w = level_ahead _ _ _ u c.in-Done.is in
+    (omega (arith, c.requires.0), (next_room _ _ _ u c.in-Done.is, (u.few, u.kept)))
 
-disjunction_mul_close : (t : ℕ) → disjunction-lts.Need-overflow-mul-close (claims_disjunction t) (disjunction_at t)
+disjunction_mul_close : (t : ℕ) → disjunction-lts.Need-offset_bounds-ts-f (claims_disjunction t) (disjunction_at t)
     disjunction.Post disjunction_Inv_loop disjunction_μ_loop
 disjunction_mul_close t c =
-    let at_if1 = c.before.before in
-    let at_level_at = at_if1.before in
-    let at_entry_lem = at_level_at.before.before.before.before.before.before.before.before in
-    let h = at_level_at.level-at.ensures.1 (omega (arith, at_if1.if1.false)) in
-    omega (arith, at_entry_lem.requires.1.1.0)
+    let h = c.level_at.ensures.1 (omega (arith, c.if-mark_at-m.false)) in
+    omega (arith, c.requires.1.1.0)
 
-disjunction_shared_slice_read_close : (t : ℕ) → disjunction-lts.Need-shared-slice-read-close (claims_disjunction t)
+disjunction_shared_slice_read_close : (t : ℕ) → disjunction-lts.Need-bounds-ts-f (claims_disjunction t)
     (disjunction_at t) disjunction.Post disjunction_Inv_loop disjunction_μ_loop
 disjunction_shared_slice_read_close t c =
-    let at_if1 = c.before.before.before in
-    at_if1.before.level-at.ensures.1 (omega (arith, at_if1.if1.false))
+    c.level_at.ensures.1 (omega (arith, c.if-mark_at-m.false))
 
-disjunction_cast_close : (t : ℕ) → disjunction-lts.Need-overflow-cast-close (claims_disjunction t) (disjunction_at t)
+disjunction_cast_close : (t : ℕ) → disjunction-lts.Need-overflow_cast-ts (claims_disjunction t) (disjunction_at t)
     disjunction.Post disjunction_Inv_loop disjunction_μ_loop
 disjunction_cast_close t c = omega arith
 
-disjunction_close_requires : (t : ℕ) → disjunction-lts.Need-close-requires (claims_disjunction t) (disjunction_at t)
+disjunction_close_requires : (t : ℕ) → disjunction-lts.Need-close-r-requires (claims_disjunction t) (disjunction_at t)
     disjunction.Post disjunction_Inv_loop disjunction_μ_loop
 disjunction_close_requires t c κs =
-    let at_conjunction2 = c.before.before in
-    let at_r = at_conjunction2.before.before.before.before.before in
-    let at_loop = at_r.before.before in
-    let at_conjunction = at_loop.before in
-    let at_entry_lem = at_conjunction.before.before.before in
-    let long = at_conjunction2.conjunction2.ensures.1.1 in (
-      level_closable _ _ _ (so_far at_entry_lem.args.out.now at_loop.loop.invariant
-          at_conjunction.conjunction.ensures.0 at_conjunction.conjunction.ensures.1 at_entry_lem.requires.1)
-          at_r.r.given.1 at_conjunction2.conjunction2.result at_conjunction2.conjunction2.new.1.1.0 long
-          at_conjunction2.conjunction2.ensures.1.0,
+    let long = c.conjunction-r-in-loop-r.ensures.1.1 in (
+      level_closable _ _ _ (so_far c.args.out.now c.loop-r.invariant
+          c.conjunction-r.ensures.0 c.conjunction-r.ensures.1 c.requires.1)
+          c.in-Done.is c.conjunction-r-in-loop-r.result c.conjunction-r-in-loop-r.new.1.1.0 long
+          c.conjunction-r-in-loop-r.ensures.1.0,
       omega arith,
     )
 
-disjunction_loop_less : (t : ℕ) → disjunction-lts.Need-loop-smaller (claims_disjunction t) (disjunction_at t)
+disjunction_loop_less : (t : ℕ) → disjunction-lts.Need-loop-r-smaller (claims_disjunction t) (disjunction_at t)
     disjunction.Post disjunction_Inv_loop disjunction_μ_loop
 disjunction_loop_less t c =
-    let at_conjunction2 = c.before.before.before in
-    let at_if1 = at_conjunction2.before.before in
-    let at_r = at_if1.before.before.before in
-    let at_loop = at_r.before.before in
-    let at_entry_lem = at_loop.before.before.before.before in
-    let h = at_if1.before.level-at.ensures.1 (omega (arith, at_if1.if1.false)) in
-    level_less (length at_entry_lem.args.ts.now) _ _ _ at_loop.loop.r at_conjunction2.conjunction2.result
-    c.close.result at_r.r.given.1 h at_conjunction2.conjunction2.ensures.1.0 c.close.ensures.0
+    let h = c.level_at.ensures.1 (omega (arith, c.if-mark_at-m.false)) in
+    level_less (length c.args.ts.now) _ _ _ c.loop-r.r-1 c.conjunction-r-in-loop-r.result
+    c.close-r.result c.in-Done.is h c.conjunction-r-in-loop-r.ensures.1.0 c.close-r.ensures.0
 
-disjunction_loop_again : (t : ℕ) → disjunction-lts.Need-loop-preserved (claims_disjunction t) (disjunction_at t)
+disjunction_loop_again : (t : ℕ) → disjunction-lts.Need-loop-r-preserved (claims_disjunction t) (disjunction_at t)
     disjunction.Post disjunction_Inv_loop disjunction_μ_loop
 disjunction_loop_again t c o u =
-    let at_conjunction2 = c.before.before.before in
-    let at_if1 = at_conjunction2.before.before in
-    let at_level_at = at_if1.before in
-    let at_r = at_level_at.before.before in
-    let h = at_level_at.level-at.ensures.1 (omega (arith, at_if1.if1.false)) in
-    let long = at_conjunction2.conjunction2.ensures.1.1 in
-    level_turn _ _ _ (at_r.before.before.loop.invariant o u) at_r.r.given.1
-    at_conjunction2.conjunction2.result at_conjunction2.conjunction2.new.1.1.0
-    (sym at_level_at.level-at.ensures.0 ∙ at_if1.if1.false) h at_conjunction2.conjunction2.ensures.0
-    at_conjunction2.conjunction2.ensures.1.0 long c.close.result c.close.new.1.1.1.1.0
-    c.close.ensures.0 c.close.ensures.1 (c.close.auto.1.1.1.1.0 ∙ long)
+    let h = c.level_at.ensures.1 (omega (arith, c.if-mark_at-m.false)) in
+    let long = c.conjunction-r-in-loop-r.ensures.1.1 in
+    level_turn _ _ _ (c.loop-r.invariant o u) c.in-Done.is
+    c.conjunction-r-in-loop-r.result c.conjunction-r-in-loop-r.new.1.1.0
+    (sym c.level_at.ensures.0 ∙ c.if-mark_at-m.false) h c.conjunction-r-in-loop-r.ensures.0
+    c.conjunction-r-in-loop-r.ensures.1.0 long c.close-r.result c.close-r.new.1.1.1.1.0
+    c.close-r.ensures.0 c.close-r.ensures.1 (c.close-r.auto.1.1.1.1.0 ∙ long)
 
 pub +argument_choice_conjunction_disjunction_equality_operand_ordering_product_sum_spec : {M : Type 1} → statement M
 +argument_choice_conjunction_disjunction_equality_operand_ordering_product_sum_spec =
