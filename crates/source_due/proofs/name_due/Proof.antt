@@ -4,22 +4,18 @@ use Rattle.source_due.proofs.Laws.{place_within, name_other, name_found}
 use Rattle.source_due.proofs.name_due.Statement.{statement}
 use Rattle.source_due.proofs.name_due.Tie as tie
 
-fault_word_requires : tie.Need-fault-word-requires
+fault_word_requires : tie.Need-fault_word-requires
 fault_word_requires c κs =
-    let at_token = c.before.before in
-    let at_entry_lem = at_token.before.before in
-    let w = place_within _ _ at_token.token-at.result at_token.token-at.ensures.1 in
-    (omega arith, omega (arith, c.place_of.ensures, w, at_entry_lem.requires.0))
+    let w = place_within _ _ c.token_at-t.result c.token_at-t.ensures.1 in
+    (omega arith, omega (arith, c.place_of.ensures, w, c.requires.0))
 
-returns : tie.Need-returns
+returns : tie.Need-returns-in_default
 returns c =
-    let at_token = c.before.before.before in
-    name_other _ _ at_token.token-at.result _ _ c.before.before.match.keys2 at_token.token-at.ensures.0 c.before.place_of.ensures c.fault-word.ensures
+    name_other _ _ c.token_at-t.result _ _ c.match.keys2 c.token_at-t.ensures.0 c.place_of.ensures c.fault_word.ensures
 
-returns_2 : tie.Need-returns-2
+returns_2 : tie.Need-returns
 returns_2 c =
-    let at_token = c.before.before.before in
-    name_found _ _ _ _ _ c.before.t.given.1 at_token.token-at.ensures.0 at_token.token-at.ensures.1
+    name_found _ _ _ _ _ c.in-Name.is c.token_at-t.ensures.0 c.token_at-t.ensures.1
 
 pub name_due_spec : {M : Type 1} → statement M
 name_due_spec =

@@ -4,33 +4,28 @@ use Rattle.source_due.proofs.Laws.{place_within, sign_other, sign_differs, sign_
 use Rattle.source_due.proofs.sign_of.Statement.{statement}
 use Rattle.source_due.proofs.sign_of.Tie as tie
 
-fault_word_requires : tie.Need-fault-word-requires
+fault_word_requires : tie.Need-fault_word-requires
 fault_word_requires c κs =
-    let start = c.before.before.before in
-    let w = place_within _ _ start.args.t start.requires.1.1.0 in
-    (omega arith, omega (arith, c.place_of.ensures, w, start.requires.0))
+    let w = place_within _ _ c.args.t c.requires.1.1.0 in
+    (omega arith, omega (arith, c.place_of.ensures, w, c.requires.0))
 
-returns : tie.Need-returns
+returns : tie.Need-returns-in_default
 returns c =
-    let start = c.before.before.before.before in
-    sign_other _ _ _ start.args.t _ _ start.requires.1.1.1.1 c.before.before.match.keys2 start.requires.1.0
-    c.before.place_of.ensures c.fault-word.ensures
+    sign_other _ _ _ c.args.t _ _ c.requires.1.1.1.1 c.match.keys2 c.requires.1.0
+    c.place_of.ensures c.fault_word.ensures
 
-fault_word_requires_2 : tie.Need-fault-word-requires-2
+fault_word_requires_2 : tie.Need-fault_word-requires-then-c-sign
 fault_word_requires_2 c κs =
-    let start = c.before.before.before.before.before in
-    let w = rw c.before.before.t.given.1 at start.requires.1.1.0 in
-    (omega arith, omega (arith, w.1, w.2, start.requires.0))
+    let w = rw c.in-Sign.is at c.requires.1.1.0 in
+    (omega arith, omega (arith, w.1, w.2, c.requires.0))
 
-returns_2 : tie.Need-returns-2
+returns_2 : tie.Need-returns-then-c-sign
 returns_2 c =
-    let start = c.before.before.before.before.before.before in
-    sign_differs _ _ _ _ _ _ _ _ c.before.before.before.t.given.1 start.requires.1.0 c.before.if1.true c.fault-word2.ensures
+    sign_differs _ _ _ _ _ _ _ _ c.in-Sign.is c.requires.1.0 c.if-c-sign.true c.fault_word-then-c-sign.ensures
 
-returns_3 : tie.Need-returns-3
+returns_3 : tie.Need-returns
 returns_3 c =
-    let start = c.before.before.before.before.before in
-    sign_found _ _ _ _ _ _ _ c.before.before.t.given.1 start.requires.1.0 start.requires.1.1.0 start.requires.1.1.1.0 c.if1.false
+    sign_found _ _ _ _ _ _ _ c.in-Sign.is c.requires.1.0 c.requires.1.1.0 c.requires.1.1.1.0 c.if-c-sign.false
 
 pub sign_of_spec : {M : Type 1} → statement M
 sign_of_spec =
