@@ -2,7 +2,7 @@
 -- members than it has steps.
 use Rattle.lib_base.proofs.Prelude.{ℕ, ◌≤◌, ◌<◌, ◌+◌, ◌-◌, suc, zero, ◌*◌, ◌%◌, ◌/◌, ◌≡◌, refl, ◌∙◌, true, false}
 use Rattle.lib_base.proofs.Prelude.{by_cases, ◌⊎◌, ⊎_elim, inr, inl, List, [], ◌∷◌, ◌++◌, length, take, drop}
-use Rattle.lib_base.proofs.Prelude.{length-take-le, take_all, take-append_seam, ltb, sub-zero, add-one, dec_lt, ne_eqb}
+use Rattle.lib_base.proofs.Prelude.{take-append_seam, ltb, add-one, dec_lt, ne_eqb}
 use Rattle.lib_base.proofs.Prelude.{le-ltb, lt-ltb, ltb-true, leb-true, arith}
 use Prim.Native.Nat.{min}
 use Rattle.lib_base.proofs.Tools.{by_test}
@@ -257,19 +257,6 @@ module _ (d : List ℕ) (e n i : ℕ) (h : back_on d e n i ≤ n) {m s : List �
 -- the list with them
 taken_of : (r : ℕ) (l o rest : List ℕ) → l ≡ o ++ drop r rest → length o ≡ r → take r l ≡ o
 taken_of r l o rest q c = rw (q, ← c) (take-append_seam o (drop (length o) rest))
-
-module _ (members : List ℕ) (r : ℕ) (list : List ℕ) where
-  pub handed_whole : r ≤ length members → r ≤ length list → {l : List ℕ} → (n : ℕ) → n ≡ length (take (r - 0) (drop 0 members)) → l ≡ take n (take (r - 0) (drop 0 members)) ++ drop n list
-      → l ≡ handed members r list
-  unfolding handed
-  handed_whole h k {l} n e q =
-      let z : n ≡ r = e ∙ rw (sub-zero r, length-take-le r members h) in
-      let f : ltb (length list) r ≡ false = le-ltb (length list) r k in
-      q ∙ rw (z, sub-zero r, f, take_all r (take r members) (omega (arith, length-take-le r members h)))
-
-  pub handed_none : length list < r → list ≡ handed members r list
-  unfolding handed
-  handed_none h = rw (lt-ltb (length list) r h)
 
 -- ---- what is found
 

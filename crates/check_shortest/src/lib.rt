@@ -111,7 +111,7 @@ fn hand_over(members: &[u8], r: usize, list: &mut [u8])
     ensures { list.new ≡ handed members.now r list.old }
 {
     if r <= list.len() {
-        bytes::copy(&members[0..r], list);
+        list[..r].copy_from_slice(&members[..r]);
     }
 }
 
