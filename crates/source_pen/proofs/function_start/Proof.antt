@@ -4,7 +4,7 @@ use Rattle.source_pen.proofs.Signs.{function_bytes, function_starts, function_st
 use Rattle.source_pen.proofs.function_start.Statement.{statement}
 use Rattle.source_pen.proofs.function_start.Tie as tie
 
-cast_result : tie.Need-overflow-cast-result
+cast_result : tie.Need-overflow_cast-result
 unfolding function_starts function_bytes
 cast_result c = let h = (function_start c.args.f c.requires).0 in omega (arith, h)
 

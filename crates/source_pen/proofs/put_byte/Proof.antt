@@ -13,4 +13,4 @@ put_byte_spec =
     (λ c. search rules)
     (λ c. search rules)
     (λ c. search rules)
-    (λ c. byte_put _ _ _ c.if1.false))
+    (λ c. byte_put _ _ _ c.if-out-n.false))

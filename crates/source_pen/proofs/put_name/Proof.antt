@@ -6,24 +6,21 @@ use Rattle.source_pen.proofs.Signs.{apart_name, apart_short}
 use Rattle.source_pen.proofs.put_name.Statement.{statement}
 use Rattle.source_pen.proofs.put_name.Tie as tie
 
-part_put_apart_end : tie.Need-slice-bounds-put-apart-end
+part_put_apart_end : tie.Need-slice_bounds-put_apart-end
 part_put_apart_end c =
-    let l = c.before.before.put-digits.ensures.1.1 in
+    let l = c.put_digits-first.ensures.1.1 in
     search (rules, l)
 
 returns : tie.Need-returns
 returns c =
-    let at_put_apart = c.before.before in
-    let at_put_digits = at_put_apart.before.before.before.before in
-    let at_entry_lem = at_put_digits.before.before.before in
-    let k = at_put_digits.put-digits.ensures in
-    let text = at_put_digits.put-digits.new.1.0 in
-    let r = at_put_digits.put-digits.result in
-    let letter = at_entry_lem.args.letter in
+    let k = c.put_digits-first.ensures in
+    let text = c.put_digits-first.new.1.0 in
+    let r = c.put_digits-first.result in
+    let letter = c.args.letter in
     let named = set text (r - 1) letter in (
-      apart_name (letter ∷ digits at_entry_lem.args.i) (part_name text r letter at_entry_lem.args.i k.1.1 k.1.0.0 k.1.0.1 k.0)
-          at_put_apart.put-apart.ensures,
-      apart_short (take (11 - (r - 1)) (drop (r - 1) named)) at_put_apart.put-apart.ensures
+      apart_name (letter ∷ digits c.args.i) (part_name text r letter c.args.i k.1.1 k.1.0.0 k.1.0.1 k.0)
+          c.put_apart.ensures,
+      apart_short (take (11 - (r - 1)) (drop (r - 1) named)) c.put_apart.ensures
           (part_short named (r - 1) (length-set text (r - 1) letter ∙ k.1.1)),
     )
 

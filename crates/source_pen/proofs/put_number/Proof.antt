@@ -5,19 +5,17 @@ use Rattle.source_pen.proofs.Signs.{apart_number, apart_short}
 use Rattle.source_pen.proofs.put_number.Statement.{statement}
 use Rattle.source_pen.proofs.put_number.Tie as tie
 
-part_put_apart_end : tie.Need-slice-bounds-put-apart-end
-part_put_apart_end c = let k = c.before.before.put-digits.ensures in omega (arith, k.1.0, k.1.1)
+part_put_apart_end : tie.Need-slice_bounds-put_apart-end
+part_put_apart_end c = let k = c.put_digits-i.ensures in omega (arith, k.1.0, k.1.1)
 
 returns : tie.Need-returns
 returns c =
-    let at_put_apart = c.before.before in
-    let at_put_digits = at_put_apart.before.before.before.before in
-    let n = at_put_digits.before.before.before.args.n in
-    let k = at_put_digits.put-digits.ensures in
-    let text = at_put_digits.put-digits.new.1.0 in
-    let r = at_put_digits.put-digits.result in (
-      apart_number n (part_digits text r n k.1.1 k.0) at_put_apart.put-apart.ensures,
-      apart_short (take (11 - r) (drop r text)) at_put_apart.put-apart.ensures (part_short text r k.1.1),
+    let n = c.args.n in
+    let k = c.put_digits-i.ensures in
+    let text = c.put_digits-i.new.1.0 in
+    let r = c.put_digits-i.result in (
+      apart_number n (part_digits text r n k.1.1 k.0) c.put_apart.ensures,
+      apart_short (take (11 - r) (drop r text)) c.put_apart.ensures (part_short text r k.1.1),
     )
 
 pub put_number_spec : {M : Type 1} → statement M

@@ -5,43 +5,37 @@ use Rattle.source_pen.proofs.Signs.{sign_bytes, sign_row, row_short, row_some, s
 use Rattle.source_pen.proofs.put_sign.Statement.{statement}
 use Rattle.source_pen.proofs.put_sign.Tie as tie
 
-sub_put_spelling : tie.Need-overflow-sub-put-spelling
+sub_put_spelling : tie.Need-slice_bounds-put_spelling-count
 sub_put_spelling c =
-    let at_start = c.before.before in
-    let k = at_start.before.before.requires in
-    (sign_row _ _ _ k.1.0 k.1.1 at_start.sign_start.ensures c.before.sign-start2.ensures).upward
+    let k = c.requires in
+    (sign_row _ _ _ k.1.0 k.1.1 c.sign_start-start.ensures c.sign_start-end.ensures).upward
 
-part_put_spelling_start : tie.Need-slice-bounds-put-spelling-start
+part_put_spelling_start : tie.Need-slice_bounds-put_spelling-start
 unfolding sign_bytes
 part_put_spelling_start c =
-    let at_start = c.before.before.before in
-    let k = at_start.before.before.requires in
-    let w = sign_row _ _ _ k.1.0 k.1.1 at_start.sign_start.ensures c.before.before.sign-start2.ensures in
+    let k = c.requires in
+    let w = sign_row _ _ _ k.1.0 k.1.1 c.sign_start-start.ensures c.sign_start-end.ensures in
     omega (arith, w.upward, w.inside)
 
-part_put_spelling_end : tie.Need-slice-bounds-put-spelling-end
+part_put_spelling_end : tie.Need-slice_bounds-put_spelling-end
 unfolding sign_bytes
 part_put_spelling_end c =
-    let at_start = c.before.before.before in
-    let k = at_start.before.before.requires in
-    let w = sign_row _ _ _ k.1.0 k.1.1 at_start.sign_start.ensures c.before.before.sign-start2.ensures in
+    let k = c.requires in
+    let w = sign_row _ _ _ k.1.0 k.1.1 c.sign_start-start.ensures c.sign_start-end.ensures in
     omega (arith, w.upward, w.inside)
 
-put_spelling_requires : tie.Need-put-spelling-requires
+put_spelling_requires : tie.Need-put_spelling-requires
 unfolding sign_bytes
 put_spelling_requires c κs =
-    let at_start = c.before.before.before.before in
-    let k = at_start.before.before.requires in
-    let w = sign_row _ _ _ k.1.0 k.1.1 at_start.sign_start.ensures c.before.before.before.sign-start2.ensures in
+    let k = c.requires in
+    let w = sign_row _ _ _ k.1.0 k.1.1 c.sign_start-start.ensures c.sign_start-end.ensures in
     (k.0, (row_short w, (row_some w (omega (arith, k.1)), w.spells)))
 
 returns : tie.Need-returns
 returns c =
-    let at_put = c.before.before in
-    let at_start = at_put.before.before.before.before.before in
-    let k = at_start.before.before.requires in
-    let w = sign_row _ _ _ k.1.0 k.1.1 at_start.sign_start.ensures at_put.before.before.before.before.sign-start2.ensures in
-    (one_token _ at_put.put-spelling.ensures, sign_ends_law _ w.short at_put.put-spelling.ensures)
+    let k = c.requires in
+    let w = sign_row _ _ _ k.1.0 k.1.1 c.sign_start-start.ensures c.sign_start-end.ensures in
+    (one_token _ c.put_spelling.ensures, sign_ends_law _ w.short c.put_spelling.ensures)
 
 pub put_sign_spec : {M : Type 1} → statement M
 put_sign_spec =

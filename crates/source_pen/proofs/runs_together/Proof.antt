@@ -4,26 +4,26 @@ use Rattle.source_pen.proofs.Bytes.{words_together, equals_together, bars_togeth
 use Rattle.source_pen.proofs.runs_together.Statement.{statement}
 use Rattle.source_pen.proofs.runs_together.Tie as tie
 
-returns : tie.Need-returns
-returns c = c.in-word2.ensures ∙ words_together _ _ (sym c.before.before.in-word.ensures ∙ c.before.if1.true)
+returns : tie.Need-returns-then-in_word
+returns c = c.in_word-then-in_word.ensures ∙ words_together _ _ (sym c.before.before.in_word.ensures ∙ c.before.if-in_word.true)
 
-returns_2 : tie.Need-returns-2
-returns_2 c = equals_together _ _ (sym c.before.takes-equals.ensures ∙ c.if2.true)
+returns_2 : tie.Need-returns-then-takes_equals
+returns_2 c = equals_together _ _ (sym c.before.takes_equals.ensures ∙ c.if-takes_equals.true)
 
-returns_3 : tie.Need-returns-3
-returns_3 c = bars_together _ _ c.if3.true
+returns_3 : tie.Need-returns-then-a-eq124
+returns_3 c = bars_together _ _ c.if-a-eq124.true
 
-returns_4 : tie.Need-returns-4
-returns_4 c = ands_together _ _ c.if4.true
+returns_4 : tie.Need-returns-then-a-eq38
+returns_4 c = ands_together _ _ c.if-a-eq38.true
 
-returns_5 : tie.Need-returns-5
+returns_5 : tie.Need-returns
 returns_5 c =
     let at_if3 = c.before in
     let at_if2 = at_if3.before in
     let at_takes_equals = at_if2.before in
     let at_if1 = at_takes_equals.before in
-    others_apart _ _ (sym at_if1.before.in-word.ensures ∙ at_if1.if1.false)
-    (sym at_takes_equals.takes-equals.ensures ∙ at_if2.if2.false) at_if3.if3.false c.if4.false
+    others_apart _ _ (sym at_if1.before.in_word.ensures ∙ at_if1.if-in_word.false)
+    (sym at_takes_equals.takes_equals.ensures ∙ at_if2.if-takes_equals.false) at_if3.if-a-eq124.false c.if-a-eq38.false
 
 pub runs_together_spec : {M : Type 1} → statement M
 runs_together_spec =

@@ -4,7 +4,7 @@ use Rattle.source_pen.proofs.Signs.{sign_bytes, sign_starts, sign_start}
 use Rattle.source_pen.proofs.sign_start.Statement.{statement}
 use Rattle.source_pen.proofs.sign_start.Tie as tie
 
-cast_result : tie.Need-overflow-cast-result
+cast_result : tie.Need-overflow_cast-result
 unfolding sign_starts sign_bytes
 cast_result c = let h = (sign_start c.args.i c.requires).0 in omega (arith, h)
 
