@@ -7,14 +7,14 @@ use Rattle.source_names.proofs.found_in.Tie as tie
 returns : tie.Need-returns-then-k-sorted
 unfolding found_in
 returns c =
-    let at_sought = c.before in
-    rw (← at_sought.sought-k.ensures, lt-ltb at_sought.sought-k.result at_sought.before.before.before.before.args.sorted c.if-k-sorted.true)
+    let at_sought = c in
+    rw (← at_sought.sought-k.ensures, lt-ltb at_sought.sought-k.result at_sought.args.sorted c.if-k-sorted.true)
 
 returns_2 : tie.Need-returns
 unfolding found_in
 returns_2 c =
-    let at_sought = c.before.before.before in
-    rw (← at_sought.sought-k.ensures, le-ltb at_sought.sought-k.result at_sought.before.before.before.before.args.sorted c.before.before.if-k-sorted.false, c.index_of.ensures.0)
+    let at_sought = c in
+    rw (← at_sought.sought-k.ensures, le-ltb at_sought.sought-k.result at_sought.args.sorted c.if-k-sorted.false, c.index_of.ensures.0)
 
 pub found_in_spec : {M : Type 1} → statement M
 found_in_spec =

@@ -1,5 +1,5 @@
 -- Where the text has room for as many bytes at the second place, these and the one behind them tell.
-use Rattle.lib_base.proofs.Prelude.{◌∙◌, sym, ap, not, not-true, not-false, rules, arith}
+use Rattle.lib_base.proofs.Prelude.{◌∙◌, sym, ap, not, rules, arith}
 use Rattle.source_language.specs.Tokens.{in_word}
 use Rattle.source_names.proofs.Laws.{name_inside, names_unlike, names_alike, no_name, no_room}
 use Rattle.source_names.proofs.same_name.Statement.{statement}
@@ -25,14 +25,14 @@ same_bytes_requires c κs =
 returns_4 : tie.Need-returns-then-not-same_bytes
 returns_4 c =
     names_unlike _ _ _ _ c.before.before.before.before.before.before.requires
-    (sym c.before.same_bytes.ensures ∙ not-true c.before.same_bytes.result c.if-not-same_bytes.true)
+    (sym c.before.same_bytes.ensures ∙ c.if-not-same_bytes.true)
 
 returns_5 : tie.Need-returns
 returns_5 c =
     let at_test = c.before.before in
     ap not (c.in_word-2.ensures ∙ ap in_word c.before.byte_at-2.ensures)
     ∙ names_alike _ _ _ _ at_test.before.before.before.before.before.before.requires
-    (sym at_test.before.same_bytes.ensures ∙ not-false at_test.before.same_bytes.result at_test.if-not-same_bytes.false)
+    (sym at_test.before.same_bytes.ensures ∙ at_test.if-not-same_bytes.false)
 
 pub same_name_spec : {M : Type 1} → statement M
 same_name_spec =
