@@ -9,9 +9,9 @@ pub write_codes_spec : {M : Type 1} → statement M
 write_codes_spec =
     tie.close
     (tie.spec
-    (λ c κs. let p = c.before.before.before.before.requires in (p.0, room_as (sym (codes_alone _ _ _ c.before.if1.true)) p.1))
+    (λ c κs. let p = c.before.before.before.before.requires in (p.0, room_as (sym (codes_alone _ _ _ c.before.if-events-eq0.true)) p.1))
     (λ c. search rules)
-    (λ c. wrote_as (sym (codes_alone _ _ _ c.before.before.before.before.if1.true)) c.before.before.write-passive-code.ensures)
-    (λ c κs. let p = c.before.before.before.before.requires in (p.0, room_as (sym (codes_events _ _ _ c.before.if1.false)) p.1))
+    (λ c. wrote_as (sym (codes_alone _ _ _ c.before.before.before.before.if-events-eq0.true)) c.before.before.write_passive_code.ensures)
+    (λ c κs. let p = c.before.before.before.before.requires in (p.0, room_as (sym (codes_events _ _ _ c.before.if-events-eq0.false)) p.1))
     (λ c. search rules)
-    (λ c. wrote_as (sym (codes_events _ _ _ c.before.before.before.before.if1.false)) c.before.before.write-events.ensures))
+    (λ c. wrote_as (sym (codes_events _ _ _ c.before.before.before.before.if-events-eq0.false)) c.before.before.write_events.ensures))

@@ -13,7 +13,7 @@ write_passive_code_spec =
     (λ c κs. let p = c.before.before.before.requires.0 in (p.long, refl, omega arith, p.few_behaviours, λ i b. planned_inside p _ i b (omega arith)))
     (λ c. search rules)
     (λ c κs.
-    let h = c.before.before.before.order-under.ensures in
+    let h = c.before.before.before.order_under-count.ensures in
     ((planned_sound c.before.before.before.before.before.before.before.requires.0, h.listed), room_as (alone_as _ _ h) c.before.before.before.before.before.before.before.requires.1))
     (λ c. search rules)
-    (λ c. wrote_as (alone_as _ _ c.before.before.before.before.before.before.order-under.ensures) c.before.before.emit-passives.ensures))
+    (λ c. wrote_as (alone_as _ _ c.before.before.before.before.before.before.order_under-count.ensures) c.before.before.emit_passives.ensures))

@@ -6,10 +6,10 @@ use Rattle.back_table.proofs.TableLaws.{recording_small, Recording, recording_st
 use Rattle.back_table.proofs.write_records.Statement.{statement}
 use Rattle.back_table.proofs.write_records.Tie as tie
 
-abbrev invariant-loop : tie.invariant-loop
+abbrev invariant-loop : tie.invariant-loop-e
 invariant-loop d ev bs t₀ k next₀ start₀ e₀ t next start e = Recording d ev bs t₀ k t next start e
 
-abbrev decreases-loop : tie.decreases-loop
+abbrev decreases-loop : tie.decreases-loop-e
 decreases-loop d ev bs t₀ k next₀ start₀ e₀ t next start e = ev - e
 
 pub write_records_spec : {M : Type 1} → statement M
@@ -19,17 +19,17 @@ write_records_spec =
     invariant-loop
     decreases-loop
     (λ c. recording_start c.before.before.requires.1)
-    (λ c κs. let p = c.before.before.before.before.requires.0 in record { long = p.long; few = p.few_behaviours; inside = p.inside c.before.loop.e (omega arith) })
+    (λ c κs. let p = c.before.before.before.before.requires.0 in record { long = p.long; few = p.few_behaviours; inside = p.inside c.before.loop-e.e (omega arith) })
     (λ c κs. let p = c.before.before.before.before.before.before.requires.0 in
-    let inv = c.before.before.before.loop.invariant in
-    let room = recording_room inv c.before.before.loop-test.true in
-    let w = recording_small inv p c.before.before.loop-test.true c.before.count-event.ensures in
+    let inv = c.before.before.before.loop-e.invariant in
+    let room = recording_room inv c.before.before.loop-e-test.true in
+    let w = recording_small inv p c.before.before.loop-e-test.true c.before.count_event-count.ensures in
     ((p.long, omega (arith, p.few_events), p.few_behaviours, omega (arith, w), omega (arith, w)), (room.1, room.0)))
     (λ c. let p = c.before.before.before.before.before.before.before.before.before.requires.0 in
-    let inv = c.before.before.before.before.before.before.loop.invariant in
-    omega (arith, recording_small inv p c.before.before.before.before.before.loop-test.true c.before.before.before.before.count-event.ensures))
+    let inv = c.before.before.before.before.before.before.loop-e.invariant in
+    omega (arith, recording_small inv p c.before.before.before.before.before.loop-e-test.true c.before.before.before.before.count_event-count.ensures))
     (λ c. omega arith)
     (λ c. omega arith)
-    (λ c. recording_turn c.before.before.before.before.before.before.loop.invariant c.before.before.before.before.before.loop-test.true c.before.before.before.before.count-event.ensures c.before.before.write-record.ensures)
-    (λ c. turn_long c.before.loop.invariant.so_far)
-    (λ c. recording_end c.before.loop.invariant c.loop-test.false))
+    (λ c. recording_turn c.before.before.before.before.before.before.loop-e.invariant c.before.before.before.before.before.loop-e-test.true c.before.before.before.before.count_event-count.ensures c.before.before.write_record-next.ensures)
+    (λ c. turn_long c.before.loop-e.invariant.so_far)
+    (λ c. recording_end c.before.loop-e.invariant c.loop-e-test.false))

@@ -4,7 +4,7 @@ use Rattle.back_table.proofs.TableLaws.{length_records, records_end, table_wrote
 use Rattle.back_table.proofs.write_table.Statement.{statement}
 use Rattle.back_table.proofs.write_table.Tie as tie
 
-write_records_requires : tie.Need-write-records-requires
+write_records_requires : tie.Need-write_records-records-requires
 write_records_requires c κs =
     let at_entry_lem = c.before.before.before.before.before.before.before in
     let p = at_entry_lem.requires.0 in (
@@ -19,12 +19,12 @@ write_records_requires c κs =
       },
     )
 
-write_zeros_requires : tie.Need-write-zeros-requires
+write_zeros_requires : tie.Need-write_zeros-requires
 write_zeros_requires c κs =
     let at_write_records = c.before.before.before in
     let at_entry_lem = at_write_records.before.before.before.before.before.before.before.before in (
       search rules,
-      records_end _ _ _ at_write_records.write-records.ensures at_entry_lem.requires.0.few_events,
+      records_end _ _ _ at_write_records.write_records-records.ensures at_entry_lem.requires.0.few_events,
       omega arith,
     )
 
@@ -35,10 +35,10 @@ returns c =
     let at_write_records = at_write_fresh.before.before.before.before.before.before.before.before in
     let at_entry_lem = at_write_records.before.before.before.before.before.before.before.before in
     table_wrote _ _ _ at_entry_lem.requires.0.few_events
-    at_write_records.before.before.before.before.write-head.ensures
-    at_write_records.write-records.ensures at_write_fresh.before.before.before.before.write-zeros.ensures
-    at_write_fresh.write-fresh.ensures.0 at_write_fresh.write-fresh.ensures.1
-    at_write_codes.write-codes.ensures c.before.before.write-zeros2.ensures
+    at_write_records.before.before.before.before.write_head.ensures
+    at_write_records.write_records-records.ensures at_write_fresh.before.before.before.before.write_zeros.ensures
+    at_write_fresh.write_fresh.ensures.0 at_write_fresh.write_fresh.ensures.1
+    at_write_codes.write_codes-codes.ensures c.before.before.write_zeros-2.ensures
 
 pub write_table_spec : {M : Type 1} → statement M
 write_table_spec =
