@@ -4,42 +4,33 @@ use Rattle.link_bytes.proofs.Laws.{in_turn_law, spliced_is}
 use Rattle.link_bytes.proofs.splice.Statement.{statement}
 use Rattle.link_bytes.proofs.splice.Tie as tie
 
-put_moved_requires_2 : tie.Need-put-moved-requires-2
+put_moved_requires_2 : tie.Need-put_moved-requires
 put_moved_requires_2 c κs =
-    let at_put_moved = c.before.before.before.before in
-    let at_put_events = at_put_moved.before.before.before.before in
-    let at_events_end2 = at_put_events.before.before in
-    let at_entry_lem = at_events_end2.before.before.before.before.before in (
-      at_events_end2.events-end2.ensures.1,
-      c.before.count.ensures.1,
+    (
+      c.events_end-j.ensures.1,
+      c.count.ensures.1,
       omega (
         arith,
-        at_put_moved.put-moved.ensures.1,
-        at_put_events.put-events.ensures.1,
-        at_put_events.put-events.auto.1.1.0,
-        at_put_moved.put-moved.auto.1.1.1.0,
-        at_entry_lem.requires,
+        c.put_moved-b.ensures.1,
+        c.put_events-a.ensures.1,
+        c.put_events-a.auto.out,
+        c.put_moved-b.auto.out,
+        c.requires,
       ),
     )
 
 returns : tie.Need-returns
 returns c =
-    let at_put_moved2 = c.before.before in
-    let at_count = at_put_moved2.before.before in
-    let at_put_moved = at_count.before.before.before in
-    let at_put_events = at_put_moved.before.before.before.before in
-    let at_events_end2 = at_put_events.before.before in
-    let at_events_end = at_events_end2.before in
-    let at_entry_lem = at_events_end.before.before.before.before in (
-      spliced_is at_entry_lem.args.s.now at_entry_lem.args.t.now at_events_end.events_end.ensures.0
-          at_events_end2.events-end2.ensures.0 at_count.count.ensures.0
-          (in_turn_law at_put_events.put-events.ensures.0 at_put_moved.put-moved.ensures.0
-          at_put_moved2.put-moved2.ensures.0),
+    (
+      spliced_is c.args.s.now c.args.t.now c.events_end-i.ensures.0
+          c.events_end-j.ensures.0 c.count.ensures.0
+          (in_turn_law c.put_events-a.ensures.0 c.put_moved-b.ensures.0
+          c.put_moved.ensures.0),
       omega (
         arith,
-        at_put_moved2.put-moved2.ensures.1,
-        at_put_moved.put-moved.ensures.1,
-        at_put_events.put-events.ensures.1,
+        c.put_moved.ensures.1,
+        c.put_moved-b.ensures.1,
+        c.put_events-a.ensures.1,
       ),
     )
 
