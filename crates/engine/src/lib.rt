@@ -1,5 +1,5 @@
-// The exported calls. Each contract gives the answer and every byte at exit, for all bytes and numbers; none has a
-// `requires`. The table is lent as `&[u8]` to all but compile: they leave it as it was.
+// The calls that engine_c exports for C. Each contract gives the answer and every byte at exit, for all bytes and
+// numbers; none has a `requires`. The table is lent as `&[u8]` to all but compile: they leave it as it was.
 
 #![tactic(auto)]
 
@@ -39,8 +39,7 @@ use spec_language::answers;
 mod steps;
 
 // The table of a sheet with its parameters. 0, or the refusal's number, 1, 3 to 13 or 20, the table as it was.
-#[unsafe(no_mangle)]
-pub extern "C" fn compile(sheet: &[u8], params: &[u8], table: &mut [u8]) -> u32
+pub fn compile(sheet: &[u8], params: &[u8], table: &mut [u8]) -> u32
     ensures table_after { compiled result table.new ≡ compile_on sheet.now params.now table.old }
     ensures sheet_value { sheet.now ≡ sheet.now }
     ensures params_value { params.now ≡ params.now }
@@ -50,8 +49,7 @@ pub extern "C" fn compile(sheet: &[u8], params: &[u8], table: &mut [u8]) -> u32
 
 // Why a sheet is turned down: compile's number, as with a full table, the list as it was; with 12 a shortest circle's
 // event times 256 (255 for none) and its length times 65,536, and it in the list's first bytes, where it has room.
-#[unsafe(no_mangle)]
-pub extern "C" fn circle(sheet: &[u8], params: &[u8], list: &mut [u8]) -> u64
+pub fn circle(sheet: &[u8], params: &[u8], list: &mut [u8]) -> u64
     ensures witnessed { Witnessed sheet.now params.now list.old result list.new }
     ensures sheet_value { sheet.now ≡ sheet.now }
     ensures params_value { params.now ≡ params.now }
@@ -60,8 +58,7 @@ pub extern "C" fn circle(sheet: &[u8], params: &[u8], list: &mut [u8]) -> u64
 }
 
 // A fresh round. 0, or 14.
-#[unsafe(no_mangle)]
-pub extern "C" fn start(table: &[u8], round: &mut [u8]) -> u32
+pub fn start(table: &[u8], round: &mut [u8]) -> u32
     ensures round_after { call_result result round.new ≡ start_on table.now round.old }
     ensures table_value { table.now ≡ table.now }
 {
@@ -69,8 +66,7 @@ pub extern "C" fn start(table: &[u8], round: &mut [u8]) -> u32
 }
 
 // An event arrives, sent by a player. 0, or 14, 24, 15, 25, 16, 17.
-#[unsafe(no_mangle)]
-pub extern "C" fn arrive(table: &[u8], round: &mut [u8], event: u32, player: u32) -> u32
+pub fn arrive(table: &[u8], round: &mut [u8], event: u32, player: u32) -> u32
     ensures round_after { call_result result round.new ≡ arrive_on table.now round.old event player }
     ensures table_value { table.now ≡ table.now }
 {
@@ -79,8 +75,7 @@ pub extern "C" fn arrive(table: &[u8], round: &mut [u8], event: u32, player: u32
 
 // One step. 0 idle, 1 one instruction, 2 a start, 3 a commit, 4 a start that preempts, with player, event and arrival
 // number; or 14. With a commit 2 ^ 56 more where the event ran over (02, M-104): the host's answer.
-#[unsafe(no_mangle)]
-pub extern "C" fn step(table: &[u8], round: &mut [u8]) -> u64
+pub fn step(table: &[u8], round: &mut [u8]) -> u64
     ensures round_after { call_result result round.new ≡ step_on table.now round.old }
     ensures table_value { table.now ≡ table.now }
 {
@@ -88,16 +83,14 @@ pub extern "C" fn step(table: &[u8], round: &mut [u8]) -> u64
 }
 
 // A step's answer as the other players are told it: without the mark (02, M-107).
-#[unsafe(no_mangle)]
-pub extern "C" fn told(answer: u64) -> u64
+pub fn told(answer: u64) -> u64
     ensures { result ≡ told_on answer }
 {
     answer % answers::OVER
 }
 
 // The value of a behaviour, for a player: 2 ^ 32 and the word; or 14, 24, 18, 25, 19.
-#[unsafe(no_mangle)]
-pub extern "C" fn board(table: &[u8], round: &[u8], behaviour: u32, player: u32) -> u64
+pub fn board(table: &[u8], round: &[u8], behaviour: u32, player: u32) -> u64
     ensures value { result ≡ board_on table.now round.now behaviour player }
     ensures table_value { table.now ≡ table.now }
     ensures round_value { round.now ≡ round.now }
@@ -107,8 +100,7 @@ pub extern "C" fn board(table: &[u8], round: &[u8], behaviour: u32, player: u32)
 
 // The steps to idle if no arrival is taken in meanwhile, exact with nothing running, else 01's bound: 2 ^ 32 and their
 // number; or 14.
-#[unsafe(no_mangle)]
-pub extern "C" fn forecast(table: &[u8], round: &[u8]) -> u64
+pub fn forecast(table: &[u8], round: &[u8]) -> u64
     ensures value { result ≡ forecast_on table.now round.now }
     ensures table_value { table.now ≡ table.now }
     ensures round_value { round.now ≡ round.now }
@@ -118,14 +110,7 @@ pub extern "C" fn forecast(table: &[u8], round: &[u8]) -> u64
 
 // The value of a behaviour after an event's arrival and everything in hand, tried on a copy: 2 ^ 32 and the word; or
 // 14, 24, 15, 25, 16, 17, 18, 25, and last 14 where a step on the copy is refused or 01's count runs out.
-#[unsafe(no_mangle)]
-pub extern "C" fn preview(
-    table: &[u8],
-    round: &[u8],
-    event: u32,
-    behaviour: u32,
-    player: u32,
-) -> u64
+pub fn preview(table: &[u8], round: &[u8], event: u32, behaviour: u32, player: u32) -> u64
     ensures value { result ≡ preview_on table.now round.now event behaviour player }
     ensures table_value { table.now ≡ table.now }
     ensures round_value { round.now ≡ round.now }
@@ -135,8 +120,7 @@ pub extern "C" fn preview(
 
 // A round goes on under a newly compiled table: hand and numbers stay, the running event goes back to the hand, actives
 // of both sheets keep their value. 0, or 14, 19, 28, the round as it was.
-#[unsafe(no_mangle)]
-pub extern "C" fn mend(old: &[u8], table: &[u8], round: &mut [u8]) -> u32
+pub fn mend(old: &[u8], table: &[u8], round: &mut [u8]) -> u32
     ensures round_after { call_result result round.new ≡ mend_on old.now table.now round.old }
     ensures value { old.now ≡ old.now }
     ensures table_value { table.now ≡ table.now }
@@ -146,8 +130,7 @@ pub extern "C" fn mend(old: &[u8], table: &[u8], round: &mut [u8]) -> u32
 
 // A formula's expression field at the start of the buffer: 2 ^ 32 and its length; or 21, 22, 9, 23, the buffer as it
 // was.
-#[unsafe(no_mangle)]
-pub extern "C" fn formula(text: &[u8], buffer: &mut [u8]) -> u64
+pub fn formula(text: &[u8], buffer: &mut [u8]) -> u64
     ensures buffer_after { answered result buffer.new ≡ formula_on text.now buffer.old }
     ensures text_value { text.now ≡ text.now }
 {
@@ -156,8 +139,7 @@ pub extern "C" fn formula(text: &[u8], buffer: &mut [u8]) -> u64
 
 // One sheet from two accepted ones, at the start of the buffer: 2 ^ 32 and its length; or compile's number of the
 // first, of the second, 26, 3, 7, 13, 27, the buffer as it was.
-#[unsafe(no_mangle)]
-pub extern "C" fn join(first: &[u8], second: &[u8], params: &[u8], buffer: &mut [u8]) -> u64
+pub fn join(first: &[u8], second: &[u8], params: &[u8], buffer: &mut [u8]) -> u64
     ensures buffer_after { joined result buffer.new ≡ join_on first.now second.now params.now buffer.old }
     ensures first_value { first.now ≡ first.now }
     ensures second_value { second.now ≡ second.now }
@@ -200,8 +182,7 @@ fn call_count(calls: usize, answers: usize) -> usize
 
 // Makes the recorded calls one after the other, and writes their answers: what a host needs to audit a round. Steps in
 // a row are judged once. How many were made.
-#[unsafe(no_mangle)]
-pub extern "C" fn replay(table: &[u8], round: &mut [u8], calls: &[u8], answers: &mut [u8]) -> usize
+pub fn replay(table: &[u8], round: &mut [u8], calls: &[u8], answers: &mut [u8]) -> usize
     ensures value { result ≡ call_count (length calls.now) (length answers.old) }
     ensures round_after { round.new ≡ round_after table.now (calls_from calls.now 0 result) round.old }
     ensures answers_after { answers.new ≡ put_answers answers.old 0
@@ -233,16 +214,14 @@ pub extern "C" fn replay(table: &[u8], round: &mut [u8], calls: &[u8], answers: 
 // ---- what a host asks of the library and of a table
 
 // The version of these calls times 65,536, and that of the layout of table and round.
-#[unsafe(no_mangle)]
-pub extern "C" fn version() -> u32
+pub fn version() -> u32
     ensures { result ≡ version_number }
 {
     run_counts::version_of()
 }
 
 // How many events a table's program declares: 2 ^ 32 and their number; or 14.
-#[unsafe(no_mangle)]
-pub extern "C" fn event_count(table: &[u8]) -> u64
+pub fn event_count(table: &[u8]) -> u64
     ensures value { result ≡ event_count_on table.now }
     ensures table_value { table.now ≡ table.now }
 {
@@ -250,8 +229,7 @@ pub extern "C" fn event_count(table: &[u8]) -> u64
 }
 
 // How many behaviours it has: 2 ^ 32 and their number; or 14.
-#[unsafe(no_mangle)]
-pub extern "C" fn behaviour_count(table: &[u8]) -> u64
+pub fn behaviour_count(table: &[u8]) -> u64
     ensures value { result ≡ behaviour_count_on table.now }
     ensures table_value { table.now ≡ table.now }
 {
@@ -259,8 +237,7 @@ pub extern "C" fn behaviour_count(table: &[u8]) -> u64
 }
 
 // An event's rank: 2 ^ 32 and the rank; or 14, 15.
-#[unsafe(no_mangle)]
-pub extern "C" fn event_rank(table: &[u8], event: u32) -> u64
+pub fn event_rank(table: &[u8], event: u32) -> u64
     ensures value { result ≡ event_rank_on table.now event }
     ensures table_value { table.now ≡ table.now }
 {
@@ -272,8 +249,7 @@ pub extern "C" fn event_rank(table: &[u8], event: u32) -> u64
 // Up to so many steps, the answer of each that commits written to `commits`, eight bytes each. Bits 0 to 31: the steps
 // made; 32 to 55: the commits written; 56 to 63: why it ended: 1 nothing is left in hand, the next would be idle; else
 // 0 all made, 2 the next is refused by 14, 3 no room for a further commit; 0 where no step is asked for.
-#[unsafe(no_mangle)]
-pub extern "C" fn frame(table: &[u8], round: &mut [u8], steps: u32, commits: &mut [u8]) -> u64
+pub fn frame(table: &[u8], round: &mut [u8], steps: u32, commits: &mut [u8]) -> u64
     ensures commits_after { framed result round.new commits.new ≡ frame_on table.now round.old steps commits.old }
     ensures table_value { table.now ≡ table.now }
 {
@@ -287,8 +263,7 @@ pub extern "C" fn frame(table: &[u8], round: &mut [u8], steps: u32, commits: &mu
 // Where 64 are in hand it makes steps until one commits, whose answer is written to `commits`, eight bytes. Bits 0 to
 // 31: the steps made; 32 to 55: the commits written; 56 to 63: 1 taken in, 2 the hand is full and there is no room for
 // a commit: no step made, 3 a step was refused by 14. Below 2 ^ 56: the refusal's number.
-#[unsafe(no_mangle)]
-pub extern "C" fn deliver(
+pub fn deliver(
     table: &[u8],
     round: &mut [u8],
     number: u32,
@@ -305,8 +280,7 @@ pub extern "C" fn deliver(
 
 // How many were taken in, and how many of them are in hand: 2 ^ 32 and the number taken in, and 2 ^ 40 for each in
 // hand; or 14.
-#[unsafe(no_mangle)]
-pub extern "C" fn taken(table: &[u8], round: &[u8]) -> u64
+pub fn taken(table: &[u8], round: &[u8]) -> u64
     ensures value { result ≡ taken_on table.now round.now }
     ensures table_value { table.now ≡ table.now }
     ensures round_value { round.now ≡ round.now }
@@ -319,8 +293,7 @@ pub extern "C" fn taken(table: &[u8], round: &[u8]) -> u64
 // Will two phones agree? compile's number, as with a full table; 0 where every two declared events of unequal rank are
 // independent; else 29, the first event times 256, the second times 65,536 and times 2 ^ 24 a behaviour that one of
 // them writes and the other reads or writes: the least first event, then the least second, then the least behaviour.
-#[unsafe(no_mangle)]
-pub extern "C" fn agree(sheet: &[u8], params: &[u8]) -> u64
+pub fn agree(sheet: &[u8], params: &[u8]) -> u64
     ensures value { result ≡ agree_on sheet.now params.now }
     ensures sheet_value { sheet.now ≡ sheet.now }
     ensures params_value { params.now ≡ params.now }
@@ -332,8 +305,7 @@ pub extern "C" fn agree(sheet: &[u8], params: &[u8]) -> u64
 // behaviour's; 0 where no two declared events of unequal rank meet in what the behaviour depends on; else 29, the first
 // event times 256, the second times 65,536 and times 2 ^ 24 the behaviour at which they meet: the least first event,
 // then the least second, then the least behaviour.
-#[unsafe(no_mangle)]
-pub extern "C" fn agree_for(sheet: &[u8], params: &[u8], behaviour: u32) -> u64
+pub fn agree_for(sheet: &[u8], params: &[u8], behaviour: u32) -> u64
     ensures value { result ≡ agree_for_on sheet.now params.now behaviour }
     ensures sheet_value { sheet.now ≡ sheet.now }
     ensures params_value { params.now ≡ params.now }
@@ -345,8 +317,7 @@ pub extern "C" fn agree_for(sheet: &[u8], params: &[u8], behaviour: u32) -> u64
 // independent, whatever their ranks; else 2 ^ 32, the least behaviour at which they meet, else the least that they
 // share, and 256 times flags: 1 the first writes it, 2 the second does, 4 the first reads it, 8 the second does, 16
 // both only add to it, 32 they meet there.
-#[unsafe(no_mangle)]
-pub extern "C" fn pair(sheet: &[u8], params: &[u8], first: u32, second: u32) -> u64
+pub fn pair(sheet: &[u8], params: &[u8], first: u32, second: u32) -> u64
     ensures value { result ≡ pair_on sheet.now params.now first second }
     ensures sheet_value { sheet.now ≡ sheet.now }
     ensures params_value { params.now ≡ params.now }
@@ -357,8 +328,7 @@ pub extern "C" fn pair(sheet: &[u8], params: &[u8], first: u32, second: u32) -> 
 // May a hidden value leak to a player? compile's number, as with a full table; 24 for a player above 7; 0 where no
 // behaviour that the player sees depends on a hidden one; else 30, the least behaviour that it sees and that names a
 // hidden one times 256, and times 65,536 the least hidden one that this names.
-#[unsafe(no_mangle)]
-pub extern "C" fn leak(sheet: &[u8], params: &[u8], player: u32) -> u64
+pub fn leak(sheet: &[u8], params: &[u8], player: u32) -> u64
     ensures value { result ≡ leak_on sheet.now params.now player }
     ensures sheet_value { sheet.now ≡ sheet.now }
     ensures params_value { params.now ≡ params.now }
@@ -370,8 +340,7 @@ pub extern "C" fn leak(sheet: &[u8], params: &[u8], player: u32) -> u64
 
 // A sheet's text becomes its bytes at the start of the buffer: 2 ^ 32 and their number; or the kind of the first fault,
 // 31 to 42, times 2 ^ 56, its line times 2 ^ 28 and its column, the buffer as it was.
-#[unsafe(no_mangle)]
-pub extern "C" fn assemble(text: &[u8], buffer: &mut [u8]) -> u64
+pub fn assemble(text: &[u8], buffer: &mut [u8]) -> u64
     ensures buffer_after { answered result buffer.new ≡ assemble_number text.now buffer.old }
     ensures text_value { text.now ≡ text.now }
 {
@@ -380,8 +349,7 @@ pub extern "C" fn assemble(text: &[u8], buffer: &mut [u8]) -> u64
 
 // A sheet becomes its text at the start of the buffer: 2 ^ 32 and its length; or compile's number, parameters lent,
 // then 41, the buffer as it was.
-#[unsafe(no_mangle)]
-pub extern "C" fn describe(sheet: &[u8], buffer: &mut [u8]) -> u64
+pub fn describe(sheet: &[u8], buffer: &mut [u8]) -> u64
     ensures buffer_after { answered result buffer.new ≡ describe_on sheet.now buffer.old }
     ensures sheet_value { sheet.now ≡ sheet.now }
 {
