@@ -9,7 +9,7 @@
     tools/believed.py --write    brings that table up to date
     tools/believed.py --planted  fails where --check does not find a planted fault
 
-The functions that the contracts cite (compileOn, stepOn ..) count as names: what they mean is proved. So does tableOf,
+The functions that the contracts cite (compile_on, step_on ..) count as names: what they mean is proved. So does table_of,
 the table that compile leaves: 01 leaves its layout free, and the claim says what stands in it. `--all` follows them too.
 A file holds definitions to believe, each of them reached, or it holds such functions, whose bodies need not be read.
 
@@ -18,7 +18,7 @@ when 2,776 lines were counted, with these parts' own lines in the record, and wh
 
 Definitions of the toolchain's library that these reach (lists, permutations, pairwise ..) are read but not ours: they
 are followed inside the library too, and counted apart. Where the toolchain has no text of a module, its names are built
-into the checker.
+into the checker, or made from a type of the library's code.
 """
 import json
 import os
@@ -31,27 +31,29 @@ from planted import planted
 from sources import NAME, module_path, read_source, read_theories, without_comment
 
 TOP = "crates/claims/specs/Claims.antt"
-CONTRACTS = "crates/engine/src/lib.rt"
+CONTRACTS = "crates/engine_c/src/lib.rt"
 ENGINE_CALL = re.compile(r"^pub (?:extern \S+ )?fn (\w+)", re.M)
 REVIEW = "docs/REVIEW.md"
 CLAIMS = "docs/CLAIMS.md"
 NO_CLAIM = "desk_format/specs/Script.antt"  # listed, and said there to be no part of the claim
 CALLS = (
-    "compile start arrive step board forecast preview mend formula join frame agree agreeFor pair leak assemble"
+    "compile start arrive step board forecast preview mend formula join frame agree agree_for pair leak assemble"
     " describe"
-    " eventCount behaviourCount eventRank deliver taken"
+    " event_count behaviour_count event_rank deliver taken"
 )
-NAMES_ONLY = {f"{call}On" for call in CALLS.split()} | {"tableOf"}
+NAMES_ONLY = {f"{call}_on" for call in CALLS.split()} | {"table_of"}
 COLUMNS = 160
+# the library's names with more than one word
+MIXFIX = ("if◌then◌else◌",)
 
 # the parts of the record for the demands of document 01 and the requests of 02, and those added after the count of 2,776
 PAPERS = (
-    "refusals sheets lists p-rounds"
-    " quotients parameters formulas rest-day rights players circles paper-order rows pooling halves"
+    "refusals sheets lists p_rounds"
+    " quotients parameters formulas rest_day rights players circles paper_order rows pooling halves"
 ).split()
 ADDED = (
-    "deliveries in-order in-order-changed remedies same-tables agreement-for one-value each-agrees each-round-agrees"
-    " one-value-in-order each-in-order pairs"
+    "deliveries in_order in_order_changed remedies same_tables agreement_for one_value each_agrees each_round_agrees"
+    " one_value_in_order each_in_order pairs"
 ).split()
 MOST_OF_PAPERS, MOST_OF_FORMER = 1989, 2776
 
@@ -89,25 +91,38 @@ class Library:
 
     def __init__(self):
         guide = subprocess.run(["rt", "doc"], capture_output=True, text=True, check=True).stdout.strip()
-        self.logic = os.path.join(os.path.dirname(os.path.dirname(guide)), "logic")
-        with open(os.path.join(self.logic, "antt-project.json"), encoding="utf8") as file:
-            self.folders = {part["name"]: part["src"] for part in json.load(file)["libraries"]}
+        self.kit = os.path.join(os.path.dirname(guide), "rattle")
+        logic = os.path.join(self.kit, "logic")
+        with open(os.path.join(logic, "antt-project.json"), encoding="utf8") as file:
+            mounts = {name: os.path.join(logic, folder) for name, folder in json.load(file)["mounts"].items()}
+        self.folders = {name: os.path.join(folder, source_folder(folder)) for name, folder in mounts.items()}
         self.theories = {}
 
+    def path_of(self, module):
+        """The file of a module: Rattle.CRATE.specs.M of a crate of the library, else LIBRARY.M."""
+        name, _, rest = module.partition(".")
+        folder = self.kit if name == "Rattle" else self.folders.get(name, "none")
+        return os.path.join(folder, rest.replace(".", "/") + ".antt")
+
     def theory(self, module):
-        """The module's text; None where it is built into the checker."""
+        """The module's text; None where it is built into the checker, or made from a type of the library's code."""
         if module not in self.theories:
-            name, _, rest = module.partition(".")
-            path = os.path.join(self.logic, self.folders.get(name, "none"), rest.replace(".", "/") + ".antt")
+            path = self.path_of(module)
             self.theories[module] = Theory(read_source(path)) if os.path.exists(path) else None
         return self.theories[module]
 
 
+def source_folder(folder):
+    """Where the modules of one of the logic's libraries lie, below its folder."""
+    with open(os.path.join(folder, "antt-project.json"), encoding="utf8") as file:
+        return json.load(file).get("src", "src")
+
+
 def readings(word):
-    """A word of the text as a name: itself, or an operator's parts."""
+    """A word of the text as a name: itself, or an operator's parts, whose places have a circle."""
     yield word
-    for form in (f"_{word}_", f"_{word}", f"{word}_"):
-        yield form
+    yield from (f"◌{word}◌", f"◌{word}", f"{word}◌")
+    yield from (name for name in MIXFIX if word in name.split("◌"))
 
 
 class Believed:
@@ -250,17 +265,23 @@ def table(believed):
     return "\n".join(["| reached by | lines |", "|---|---|", *lines]) + "\n"
 
 
+def not_text(module):
+    """What a module of the library is that has no text."""
+    return "made from types of its code" if ".declared." in module else "built into the checker"
+
+
 def library_list(believed, seen):
     """The page's list of the library's definitions, by module."""
     reached = believed.library_reached(seen)
     lines = []
     for module in sorted({module for module, _ in reached}):
         names = {name: d for (m, name), d in sorted(reached.items()) if m == module}
-        count = f"{believed.lines_in(names)} lines" if any(names.values()) else "built into the checker"
+        count = f"{believed.lines_in(names)} lines" if any(names.values()) else not_text(module)
         lines += textwrap.wrap(f"- {module}, {count}: {', '.join(names)}", 120, subsequent_indent="  ")
-    built_in = sum(d is None for d in reached.values())
+    bare = [not_text(module) for (module, _), d in reached.items() if d is None]
+    counted = ", ".join(f"{bare.count(kind)} are {kind}" for kind in dict.fromkeys(sorted(bare)))
     lines.append("")
-    total = f"Together {len(reached)} names: {built_in} are built into the checker, {len(reached) - built_in} are defined"
+    total = f"Together {len(reached)} names: {counted}, {len(reached) - len(bare)} are defined"
     lines.append(f"{total} in {believed.lines_in(reached)} lines.")
     return "\n".join(["<!-- library -->", *lines, "<!-- end -->"]) + "\n"
 
@@ -386,16 +407,16 @@ PLANTED_NAME = "abbrev pub planted : ℕ → ℕ\nplanted n = n\n"
 
 def reached_by(use, word, definition=PLANTED_NAME, elsewhere=ELSEWHERE):
     """A definition in a file of its own, which the claim reaches by this import and this word."""
-    return [(elsewhere, None, definition), (TOP, PART, f"{PART}  pub planted-part : {word} ≡ 0\n"), (TOP, None, use)]
+    return [(elsewhere, None, definition), (TOP, PART, f"{PART}  pub planted_part : {word} ≡ 0\n"), (TOP, None, use)]
 
 
 def import_of(names, kind="specs"):
-    return f"use Rattle·lib_base·{kind}.{kind}.Planted{names}\n"
+    return f"use Rattle.lib_base.{kind}.Planted{names}\n"
 
 
 UNLISTED = f"{ELSEWHERE} must be believed"
 MODEL = "crates/spec_model/specs/Model.antt"
-RANK = "  priority e = getD (p .priorities) e 0\n"
+RANK = "  priority e = get_or p.priorities e 0\n"
 # longer than all that may be believed, however few lines that is now
 TOO_MANY = range(MOST_OF_PAPERS)
 LONG = PLANTED_NAME + "".join(f"planted {n} = {n}\n" for n in TOO_MANY)
@@ -406,20 +427,20 @@ PLANTED = [
     (UNLISTED, reached_by(import_of(".{planted}"), "planted 1")),
     (UNLISTED, reached_by(import_of(".{planted as other}"), "other 1")),
     (UNLISTED, reached_by(import_of(" as far"), "far.planted 1")),
-    (UNLISTED, reached_by(import_of(".{_⊛_}"), "1 ⊛ 2", "abbrev pub _⊛_ : ℕ → ℕ → ℕ\nm ⊛ n = n\n")),
-    (UNLISTED, reached_by(import_of(".{one-case}"), "one-case", "pub data Cases : Type 0 where\n  one-case : Cases\n")),
-    (UNLISTED, RENAMED + reached_by("use Rattle·lib_base·specs.specs.Between.{planted}\n", "planted 1", "")),
+    (UNLISTED, reached_by(import_of(".{◌⊛◌}"), "1 ⊛ 2", "abbrev pub ◌⊛◌ : ℕ → ℕ → ℕ\nm ⊛ n = n\n")),
+    (UNLISTED, reached_by(import_of(".{one_case}"), "one_case", "pub data Cases : Type 0 where\n  one_case : Cases\n")),
+    (UNLISTED, RENAMED + reached_by("use Rattle.lib_base.specs.Between.{planted}\n", "planted 1", "")),
     ("planted must be believed, and stands beside lemmas", reached_by(import_of(".{planted}", "proofs"), "planted 1", elsewhere=PROOFS)),
     ("planted stands in a believed file", [(MODEL, None, f"\n{PLANTED_NAME}")]),
-    ("stepOn stands in a believed file", [(MODEL, None, "\nabbrev pub stepOn : ℕ → ℕ\nstepOn n = n\n")]),
+    ("step_on stands in a believed file", [(MODEL, None, "\nabbrev pub step_on : ℕ → ℕ\nstep_on n = n\n")]),
     ("a believed file with a line of 161 columns", [(MODEL, None, "-- " + "o" * 158 + "\n")]),
     ("documents 01 and 02", [(MODEL, RANK, RANK + "".join(f"  priority {n} = {n}\n" for n in TOO_MANY))]),
     ("the claim without deliveries", reached_by(import_of(".{planted}"), "planted 1", LONG)),
     ("lists spec_model/specs/Told.antt", [(REVIEW, PAGE_FILE, f"{PAGE_FILE}, `spec_model/specs/Told.antt`")]),
-    ("does not reach it: same-board", [(CLAIMS, "  - part: `Claims.p-rounds`", "  - part: `Claims.p-rounds`, `same-board`")]),
-    ("does not reach it: Claims.q-rounds", [(CLAIMS, "  - part: `Claims.p-rounds`", "  - part: `Claims.q-rounds`")]),
+    ("does not reach it: same_board", [(CLAIMS, "  - part: `Claims.p_rounds`", "  - part: `Claims.p_rounds`, `same_board`")]),
+    ("does not reach it: Claims.q_rounds", [(CLAIMS, "  - part: `Claims.p_rounds`", "  - part: `Claims.q_rounds`")]),
     ("table of lines is not up to date", [(REVIEW, "| the claim | ", "| the claim | 1")]),
-    ("table of lines is not up to date", [(TOP, PART, f"{PART}  pub planted-part : Texts\n")]),
+    ("table of lines is not up to date", [(TOP, PART, f"{PART}  pub planted_part : Texts\n")]),
     ("list of the library's definitions", [(REVIEW, "List·Permᴰ, ", "")]),
     ("list of the library's definitions", [(REVIEW, "Together ", "Together 1")]),
     ("list of the library's definitions", reached_by("use mathlib.Core.List.{reverse}\n", "reverse", "")),

@@ -25,6 +25,7 @@ from sources import NAME, files_under, is_theory, module_path, once_each, read_c
 
 WIDTH = 120
 PAGES = ["README.md", "CONTRIBUTING.md"]
+EXPORTS = "crates/engine_c/src/lib.rt"
 
 
 def pages():
@@ -92,8 +93,11 @@ SAME_MEANING = {
 
 
 def functions_declared_twice():
+    """The exports have the names of the engine's calls that they are."""
     places = {}
     for path in files_under("crates", ".rt"):
+        if path == EXPORTS:
+            continue
         for name in re.findall(r"^ *(?:pub )?(?:extern \"C\" )?fn (\w+)", text_of(path), re.M):
             crate = path.split("/")[1]
             if places.setdefault(name, crate) != crate and name not in SAME_MEANING:
@@ -144,7 +148,7 @@ def unused_dependencies():
     for crate, needs in crates.items():
         text = "\n".join(text_of(p) for p in files_under(f"crates/{crate}", (".antt", ".rt")))
         for need in needs:
-            if not re.search(rf"Rattle·{need}[.·]|(?<!\w){need}::", text):
+            if not re.search(rf"Rattle\.{need}\.|(?<!\w){need}::", text):
                 yield f"crates.txt: {crate} names {need}, which nothing in it uses"
 
 
@@ -209,8 +213,8 @@ def faults_of_edit(path):
     for line in text_of(path).split("\n"):
         if line.startswith("file: "):
             file, named = f"crates/{crate}/{line[6:].strip()}", None
-        elif line.startswith("in: "):
-            named = line[4:].strip()
+        elif line.startswith(("in: ", "# in: ")):
+            named = line.partition("in: ")[2].strip()
         elif line.startswith("old: "):
             old = line[5:]
         elif line.startswith("new:"):
@@ -250,7 +254,7 @@ def edits_due_at_the_gate():
     page, tried = "docs/CLAIMS.md", {cited for cited, paths in edits().items() if paths[0].startswith("crates/")}
     calls = section("docs/REVIEW.md", "Two wrong programs for each exported call")
     of_call = {call: re.findall(r"`(\w+/\w+)`", rest) for call, rest in re.findall(r"^- `(\w+)`: (.*(?:\n  .*)*)", calls, re.M)}
-    for call in re.findall(r'^pub extern "C" fn (\w+)', text_of("crates/engine/src/lib.rt"), re.M):
+    for call in re.findall(r'^pub extern "C" fn (\w+)', text_of(EXPORTS), re.M):
         count = len(tried.intersection(of_call.get(call, [])))
         if count < 2:
             yield f"docs/REVIEW.md: the gate tries {count} edits of {call} that are listed there, and two are due"
@@ -296,7 +300,7 @@ POWER = re.compile(r"\b2 \^ \d+")
 def bare_numbers_in_contracts():
     """Contracts name their numbers as the code does; those of the exported calls have the papers' own."""
     for path in files_under("crates", ".rt"):
-        if path.split("/")[1] == "engine":
+        if path.split("/")[1] in ("engine", "engine_c"):
             continue
         text = text_of(path)
         for clause in CLAUSE.finditer(text):
@@ -479,9 +483,9 @@ def edit_not_there(cited, crates, found):
 
 
 # words of the toolchain's library and of sheets that a header may cite
-LIBRARY = {"set", "getD", "take", "drop", "omega", "set-out", "later", "refl"}
+LIBRARY = {"set", "get_or", "take", "drop", "omega", "set-out", "later", "refl"}
 # words that a page may cite though no file of the project declares them
-WORDS = {"must-fail", "requires", "ensures", "if", "pick", "s", "ps", "t₀", "l₀", "cs", "N", "NAME"}
+WORDS = {"must-fail", "requires", "ensures", "result", "if", "pick", "s", "ps", "t₀", "l₀", "cs", "N", "NAME"}
 
 
 def faults_of_citation(cited, names):
@@ -517,7 +521,7 @@ NOT_YET_NAMED = set()
 
 
 # an answer that says no more than which tactic finds it needs no name
-ONLY_TACTIC = re.compile(r"\(λ [^.()]*\. (?:search (?:needs|code depth \d+)|omega arith)\)")
+ONLY_TACTIC = re.compile(r"\(λ [^.()]*\. (?:search (?:rules|code depth \d+)|omega arith)\)")
 
 
 def positional_answers(text):
@@ -619,25 +623,25 @@ def check():
 PLANTED_PAIR = "old:     get_at(bytes, k * WORD_BYTES)\nnew:     get_at(bytes, k)\n"
 PLANTED = [
     ("a lemma in specs/", "crates/lib_base/specs/Planted.antt", "planted : 0 ≡ 0\nplanted = refl\n"),
-    ("imports from", "crates/lib_base/specs/Planted.antt", "use Rattle·lib_base·proofs.proofs.Tools.{by-test}\n"),
-    ("declares too", "crates/lib_base/specs/Planted.antt", "abbrev pub noEvent : ℕ\nnoEvent = 1\n"),
-    ("declares too", "crates/lib_base/specs/Planted.antt", "abbrev pub NoEvent : ℕ\nNoEvent = 1\n"),
+    ("imports from", "crates/lib_base/specs/Planted.antt", "use Rattle.lib_base.proofs.Tools.{by_test}\n"),
+    ("declares too", "crates/lib_base/specs/Planted.antt", "abbrev pub no_event : ℕ\nno_event = 1\n"),
+    ("declares too", "crates/lib_base/specs/Planted.antt", "abbrev pub No_event : ℕ\nNo_event = 1\n"),
     ("a function's name that", "crates/lib_word/src/planted.rt", "fn best_of(n: usize) -> usize {\n    n\n}\n"),
-    ("a public name that nothing uses", "crates/lib_base/proofs/Planted.antt", "abbrev pub plantedName : ℕ\nplantedName = 1\n"),
+    ("a public name that nothing uses", "crates/lib_base/proofs/Planted.antt", "abbrev pub planted_name : ℕ\nplanted_name = 1\n"),
     ("which nothing in it uses", "crates.txt", None),
     ("rooms that stand on each other", "crates.txt", None),
     ("it changes nothing", "crates/lib_word/must-fail/planted.edit", None),
     ("the same label as", "tests/edits/lib_word/get_word_by_two.edit", None),
-    ("`in:` names wide", "crates/lib_word/must-fail/planted.edit", "file: src/lib.rt\nin: wide\n" + PLANTED_PAIR),
+    ("`in:` names wide", "crates/lib_word/must-fail/planted.edit", "file: src/lib.rt\n# in: wide\n" + PLANTED_PAIR),
     ("`in:` names none", "crates/lib_word/must-fail/planted.edit", "file: src/lib.rt\n" + PLANTED_PAIR),
     ("no edit of its code", "crates/lib_base/src/planted.rt", "fn planted() -> u32 {\n    0\n}\n"),
     ("0 edits of circle", "docs/REVIEW.md", ("- `circle`: ", "- `planted`: ")),
     ("no edit of the engine that is sent back", "docs/CLAIMS.md", ("`run_arrive/number_made_up`\n", "`run_arrive/planted`\n")),
     ("a number without a name", "crates/lib_word/src/planted.rt", "fn planted() -> u32 {\n    17\n}\n"),
-    ("in a contract: 17", "crates/lib_word/src/planted.rt", "fn planted() -> u32\n    ensures { λ r. ⌜ r < 17 ⌝ }\n{\n    0\n}\n"),
+    ("in a contract: 17", "crates/lib_word/src/planted.rt", "fn planted() -> u32\n    ensures { result < 17 }\n{\n    0\n}\n"),
     ("8 parameters", "crates/lib_word/src/planted.rt", "fn planted(\n" + "".join(f"    {a}: u32,\n" for a in "abcdefgh") + ") -> u32\n{\n    a\n}\n"),
-    ("7 clauses", "crates/lib_word/src/planted.rt", "fn planted() -> u32\n" + "    ensures { λ r. ⌜ r ≡ 0 ⌝ }\n" * 7 + "{\n    0\n}\n"),
-    ("columns in a contract", "crates/lib_word/src/planted.rt", "fn planted() -> u32\n    ensures { λ r. ⌜ " + "0 + " * 40 + "0 ≡ r ⌝ }\n{\n    0\n}\n"),
+    ("7 clauses", "crates/lib_word/src/planted.rt", "fn planted() -> u32\n" + "    ensures clause { result ≡ 0 }\n" * 7 + "{\n    0\n}\n"),
+    ("columns in a contract", "crates/lib_word/src/planted.rt", "fn planted() -> u32\n    ensures { " + "0 + " * 40 + "0 ≡ result }\n{\n    0\n}\n"),
     ("an offset", "crates/front_rows/src/planted.rt", "fn planted(s: &[u8]) -> u8 {\n    s[3]\n}\n"),
     ("an offset", "crates/link_bytes/src/planted.rt", "const AT: usize = 4;\n\nfn planted(s: &[u8]) {\n    s[0 + AT]\n}\n"),
     ("an offset", "crates/source_walk/src/planted.rt", "fn planted(s: &[u8]) -> u8 {\n    byte_from(s, 0, 3)\n}\n"),
@@ -648,7 +652,7 @@ PLANTED = [
     ("tags of a sheet's fields", "crates/desk_format/src/planted.rt", "use spec_language::tags;\n"),
     ("that is declared outside sheet_field", "crates/spec_language/src/tags.rt", "pub const ROW: u8 = 0x06;\n"),
     ("a comment of", "crates/lib_base/proofs/Planted.antt", "-- " + "wide " * 30 + "\n"),
-    ("no such name", "docs/CLAIMS.md", "\n`plantedNameOfNothing`\n"),
+    ("no such name", "docs/CLAIMS.md", "\n`planted_name_of_nothing`\n"),
     ("no such name", "docs/CLAIMS.md", "\n`get_word_by_two`\n"),
     ("in its header, no such name", "crates/lib_base/proofs/Planted.antt", "-- `planted::nothing` meets its contract.\n"),
     ("no such edit", "docs/CLAIMS.md", "\n`lib_word/planted_edit_of_nothing`\n"),
@@ -684,7 +688,7 @@ def planted():
     with tempfile.TemporaryDirectory() as room:
         for name in ("crates", "docs", "tests/edits", "crates.txt", "README.md", "CONTRIBUTING.md"):
             if os.path.isdir(name):
-                shutil.copytree(name, os.path.join(room, name))
+                shutil.copytree(name, os.path.join(room, name), ignore=shutil.ignore_patterns("out"))
             elif os.path.exists(name):
                 shutil.copy(name, os.path.join(room, name))
         os.chdir(room)

@@ -44,7 +44,7 @@ def planted(tool, check, copied, cases):
     with tempfile.TemporaryDirectory() as room:
         for name in copied:
             if os.path.isdir(name):
-                shutil.copytree(name, os.path.join(room, name))
+                shutil.copytree(name, os.path.join(room, name), ignore=shutil.ignore_patterns("out"))
             else:
                 os.makedirs(os.path.dirname(os.path.join(room, name)), exist_ok=True)
                 shutil.copy(name, os.path.join(room, name))

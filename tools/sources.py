@@ -9,7 +9,7 @@ from dataclasses import dataclass, field
 
 MARKS = ("pub", "abbrev", "unfoldable")
 NAME = r"[^\s(){}\[\],;.«»]+"
-MODULE = re.compile(r"Rattle·([a-z_0-9]+)(?:·(?:specs|proofs))?\.(specs|proofs)(?:\.([A-Za-z0-9_]+))?")
+MODULE = re.compile(r"Rattle\.([a-z_0-9]+)\.(specs|proofs)\.([A-Za-z0-9_]+)$")
 
 
 @dataclass
@@ -120,27 +120,30 @@ def read_source(path):
 
 
 def files_under(folder, endings):
-    for place, _, names in sorted(os.walk(folder)):
+    """The files below a folder, but for what the toolchain keeps in out/."""
+    for place, folders, names in os.walk(folder):
+        folders[:] = sorted(name for name in folders if name != "out")
         for name in sorted(names):
             if name.endswith(endings):
                 yield os.path.join(place, name)
 
 
 def read_crates():
-    """crates.txt: each crate with the crates that it stands on, in order; and its room, with which its name begins."""
+    """crates.txt: each crate with the crates that it stands on, in order; and its room, with which its name begins.
+    A line of a static library has that word behind its name."""
     crates = {}
     with open("crates.txt", encoding="utf8") as file:
         for line in file:
             name, colon, rest = line.split("#")[0].partition(":")
             if colon:
-                crates[name.strip()] = rest.split()
+                crates[name.split()[0]] = rest.split()
     return crates, {crate: crate.split("_")[0] for crate in crates}
 
 
 def module_path(module):
-    """The file of a module of the project, or None."""
+    """The file of a module of the project, or None: the toolchain's libraries are named in the same way."""
     found = MODULE.match(module)
-    if not found or not found.group(3):
+    if not found or not os.path.isdir(f"crates/{found.group(1)}"):
         return None
     crate, kind, name = found.groups()
     return f"crates/{crate}/{kind}/{name}.antt"
