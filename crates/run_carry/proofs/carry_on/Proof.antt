@@ -27,29 +27,29 @@ module _ (old t l m₀ : List ℕ) {m : List ℕ} {k n : ℕ} {x : Bool} (e : m 
   inside h g = rw (← p, ← q, ← e, ← f, h) g
 
 -- back from the test of the code to the values filled in
-abbrev fill_at_law : tie.After-code-fits → tie.After-fill
+abbrev fill_at_law : tie.After-code_fits → tie.After-fill
 fill_at_law c = c.before.before.before.before.before
 
-execute_from_requires : tie.Need-execute-from-requires
+execute_from_requires : tie.Need-execute_from-requires
 execute_from_requires c κs =
     let fits = c.before.before in
     let s = shallow _ _ _ _ (fill_at_law fits).fill.ensures
     (fill_at_law fits).before.before.before.before.before.before.requires.1 in
-    let b = code_bound _ _ (sym fits.code_fits.ensures ∙ not-false _ c.before.if1.false) in
+    let b = code_bound _ _ (sym fits.code_fits.ensures ∙ not-false _ c.before.if-not-code_fits.false) in
     search rules
 
-returns : tie.Need-returns
+returns : tie.Need-returns-then-not-code_fits
 returns c =
     let fits = c.before in
-    outside _ _ _ _ (fill_at_law fits).fill.ensures fits.before.before.get-word.ensures
-    fits.before.get-word2.ensures fits.code_fits.ensures (not-true _ c.if1.true)
+    outside _ _ _ _ (fill_at_law fits).fill.ensures fits.before.before.get_word-start.ensures
+    fits.before.get_word-length.ensures fits.code_fits.ensures (not-true _ c.if-not-code_fits.true)
 
-returns_2 : tie.Need-returns-2
+returns_2 : tie.Need-returns
 returns_2 c =
     let fits = c.before.before.before.before.before in
-    inside _ _ _ _ (fill_at_law fits).fill.ensures fits.before.before.get-word.ensures
-    fits.before.get-word2.ensures fits.code_fits.ensures
-    (not-false _ c.before.before.before.before.if1.false) c.before.before.execute-from.ensures
+    inside _ _ _ _ (fill_at_law fits).fill.ensures fits.before.before.get_word-start.ensures
+    fits.before.get_word-length.ensures fits.code_fits.ensures
+    (not-false _ c.before.before.before.before.if-not-code_fits.false) c.before.before.execute_from.ensures
 
 pub carry_on_spec : {M : Type 1} → statement M
 carry_on_spec =

@@ -25,10 +25,10 @@ turn {old} {t} {l} {m₀} {m} {o} {i} {v} k h f e = record {
 end : {old t l m₀ m : List ℕ} {i : ℕ} → Turn old t l m₀ m i → 64 ≤ i → m ≡ filled_store old t l m₀ 64
 end {i} k h = let z : i ≡ 64 = omega arith in rw z at k.same
 
-abbrev invariant-loop : tie.invariant-loop
+abbrev invariant-loop : tie.invariant-loop-i
 invariant-loop old t l m₀ i₀ m i = Turn old t l m₀ m i
 
-abbrev decreases-loop : tie.decreases-loop
+abbrev decreases-loop : tie.decreases-loop-i
 decreases-loop old t l m₀ i₀ m i = 64 - i
 
 pub fill_spec : {M : Type 1} → statement M
@@ -39,11 +39,11 @@ fill_spec =
     decreases-loop
     (λ c. start _ _ _ _)
     (λ c κs. search rules)
-    (λ c κs. let g = c.before.before.before.loop.invariant.long in search rules)
+    (λ c κs. let g = c.before.before.before.loop-i.invariant.long in search rules)
     (λ c. omega arith)
     (λ c. omega arith)
     (λ c.
-    turn c.before.before.before.before.before.before.loop.invariant (omega arith) c.before.before.before.before.value-for.ensures
-    c.before.before.fill_at_law.ensures)
-    (λ c. c.before.loop.invariant.long)
-    (λ c. end c.before.loop.invariant (omega arith)))
+    turn c.before.before.before.before.before.before.loop-i.invariant (omega arith) c.before.before.before.before.value_for-value.ensures
+    c.before.before.fill_at.ensures)
+    (λ c. c.before.loop-i.invariant.long)
+    (λ c. end c.before.loop-i.invariant (omega arith)))

@@ -14,4 +14,4 @@ fill_at_spec =
     (λ c. search rules)
     (λ c κs. search rules)
     (λ c. search rules)
-    (λ c. cc (c.before.before.before.before.before.before.put_word.ensures, c.before.before.put-word2.ensures)))
+    (λ c. cc (c.before.before.before.before.before.before.put_word.ensures, c.before.before.put_word-2.ensures)))

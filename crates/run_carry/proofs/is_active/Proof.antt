@@ -22,5 +22,5 @@ is_active_spec =
     (λ c. search rules)
     (λ c. search rules)
     (λ c κs. search rules)
-    (λ c. by_kind _ _ c.before.before.get-word.ensures c.before.if1.true c.get-word2.ensures)
-    (λ c. past_end _ _ c.before.get-word.ensures c.if1.false))
+    (λ c. by_kind _ _ c.before.before.get_word.ensures c.before.if-behaviour-get_word.true c.get_word-then-behaviour-get_word.ensures)
+    (λ c. past_end _ _ c.before.get_word.ensures c.if-behaviour-get_word.false))

@@ -26,10 +26,10 @@ turn {t} {m} {l₀} {l} {o} {i} {v} k h f e = record {
 end : {t m l₀ l : List ℕ} {i : ℕ} → Turn t m l₀ l i → 64 ≤ i → l ≡ store_shown t m l₀ 64
 end {i} k h = let z : i ≡ 64 = omega arith in rw z at k.same
 
-abbrev invariant-loop : tie.invariant-loop
+abbrev invariant-loop : tie.invariant-loop-i
 invariant-loop t m l₀ i₀ l i = Turn t m l₀ l i
 
-abbrev decreases-loop : tie.decreases-loop
+abbrev decreases-loop : tie.decreases-loop-i
 decreases-loop t m l₀ i₀ l i = 64 - i
 
 pub show_spec : {M : Type 1} → statement M
@@ -41,11 +41,11 @@ show_spec =
     (λ c. start _ _ _)
     (λ c κs. search rules)
     (λ c. omega arith)
-    (λ c κs. let g = c.before.before.before.loop.invariant.long in search rules)
+    (λ c κs. let g = c.before.before.before.loop-i.invariant.long in search rules)
     (λ c. omega arith)
     (λ c. omega arith)
     (λ c.
-    turn c.before.before.before.before.before.before.loop.invariant (omega arith) c.before.before.before.before.shown-for.ensures
+    turn c.before.before.before.before.before.before.loop-i.invariant (omega arith) c.before.before.before.before.shown_for-value.ensures
     c.before.before.put_word.ensures)
-    (λ c. c.before.loop.invariant.long)
-    (λ c. end c.before.loop.invariant (omega arith)))
+    (λ c. c.before.loop-i.invariant.long)
+    (λ c. end c.before.loop-i.invariant (omega arith)))
