@@ -53,52 +53,52 @@ abbrev asked : tie.Start → (List ℕ → List ℕ → ℕ → ℕ → ℕ) →
 asked c f = f c.args.table.now c.args.round.now c.args.behaviour c.args.player
 
 -- where the round is ours
-module _ (c : tie.Else1) where
+module _ (c : tie.Else-not-is_ours) where
   abbrev entry : tie.Start
   entry = c.before.before.before.before
 
   valid : Bounds entry.args.table.now entry.args.round.now
-  valid = c.before.is_ours.ensures.1 (not-false _ c.if1.false)
+  valid = c.before.is_ours.ensures.1 (not-false _ c.if-not-is_ours.false)
 
   inside : {r : ℕ} → r ≡ asked entry board_in → r ≡ asked entry board_on
-  inside = opened _ _ _ _ c.before.is_ours.ensures.0 (not-false _ c.if1.false)
+  inside = opened _ _ _ _ c.before.is_ours.ensures.0 (not-false _ c.if-not-is_ours.false)
 
 -- where the behaviour is known
-module _ (c : tie.Else3) where
-  abbrev ours_at : tie.Else1
+module _ (c : tie.Else-get_word-behaviour) where
+  abbrev ours_at : tie.Else-not-is_ours
   ours_at = c.before.before.before
 
   found : {r : ℕ} → r ≡ asked (entry ours_at) board_known → r ≡ asked (entry ours_at) board_on
   found q =
-      inside ours_at (known _ _ _ _ c.before.before.if2.false c.before.get-word.ensures c.if3.false q)
+      inside ours_at (known _ _ _ _ c.before.before.if-player-ge-PLAYERS.false c.before.get_word.ensures c.if-get_word-behaviour.false q)
 
-returns_3 : tie.Need-returns-3
+returns_3 : tie.Need-returns-then-get_word-behaviour
 returns_3 c =
     inside c.before.before.before
-    (unknown _ _ _ _ c.before.before.if2.false c.before.get-word.ensures c.if3.true)
+    (unknown _ _ _ _ c.before.before.if-player-ge-PLAYERS.false c.before.get_word.ensures c.if-get_word-behaviour.true)
 
-returns_5 : tie.Need-returns-5
+returns_5 : tie.Need-returns-then-copy_back_under_way
 returns_5 c =
     let right = c.before.before in
-    found right.before.before (copied_back _ _ _ _ right.before.may-see.ensures
-    (not-false _ right.if4.false) c.before.copy-back-under-way.ensures c.if5.true)
+    found right.before.before (copied_back _ _ _ _ right.before.may_see.ensures
+    (not-false _ right.if-not-may_see.false) c.before.copy_back_under_way.ensures c.if-copy_back_under_way.true)
 
-returns_6 : tie.Need-returns-6
+returns_6 : tie.Need-returns
 returns_6 c =
     let right = c.before.before.before in
-    found right.before.before (shown _ _ _ _ right.before.may-see.ensures (not-false _ right.if4.false)
-    c.before.before.copy-back-under-way.ensures c.before.if5.false c.get-word2.ensures)
+    found right.before.before (shown _ _ _ _ right.before.may_see.ensures (not-false _ right.if-not-may_see.false)
+    c.before.before.copy_back_under_way.ensures c.before.if-copy_back_under_way.false c.get_word-2.ensures)
 
 pub board_at_spec : {M : Type 1} → statement M
 board_at_spec =
     tie.close
     (tie.spec (search rules)
-    (λ c. foreign _ _ _ _ c.before.is_ours.ensures.0 (not-true _ c.if1.true))
-    (λ c. inside c.before (no_player_law _ _ _ _ c.if2.true))
+    (λ c. foreign _ _ _ _ c.before.is_ours.ensures.0 (not-true _ c.if-not-is_ours.true))
+    (λ c. inside c.before (no_player_law _ _ _ _ c.if-player-ge-PLAYERS.true))
     (λ c κs. let b = valid c.before in search rules)
     returns_3
     (λ c κs. let b = valid (ours_at c) in search rules)
-    (λ c. found c.before.before (no_right_law _ _ _ _ c.before.may-see.ensures (not-true _ c.if4.true)))
+    (λ c. found c.before.before (no_right_law _ _ _ _ c.before.may_see.ensures (not-true _ c.if-not-may_see.true)))
     (λ c κs. valid (ours_at c.before.before))
     returns_5 (search rules)
     (λ c κs. let b = valid (ours_at c.before.before.before.before) in search rules)

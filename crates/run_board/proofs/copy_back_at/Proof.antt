@@ -11,6 +11,6 @@ copy_back_at_spec =
     tie.close
     (tie.spec
     (λ c κs. search rules)
-    (λ c κs. c.before.is_ours.ensures.1 c.if1.true)
+    (λ c κs. c.before.is_ours.ensures.1 c.if-is_ours.true)
     (λ c. rw (← c.before.before.is_ours.ensures.0) (search code depth 12))
     (λ c. rw (← c.before.is_ours.ensures.0) (search code depth 12)))

@@ -19,10 +19,10 @@ copy_back_under_way_spec =
     tie.close
     (tie.spec
     (λ c κs. search rules)
-    (λ c. none _ _ c.before.get-word.ensures c.if1.true)
+    (λ c. none _ _ c.before.get_word.ensures c.if-get_word-eq0.true)
     (λ c κs. search rules)
     (λ c κs. search rules)
     (λ c κs. search rules)
     (λ c κs. search rules)
     (λ c κs. search rules)
-    (λ c. runs _ _ c.before.before.before.before.before.before.get-word.ensures c.before.before.before.before.before.if1.false c.before.before.before.before.event_at_law.ensures c.before.before.before.event_word_law.ensures c.before.before.event-word2.ensures c.before.get-word2.ensures c.is-copying-back.ensures))
+    (λ c. runs _ _ c.before.before.before.before.before.before.get_word.ensures c.before.before.before.before.before.if-get_word-eq0.false c.before.before.before.before.event_at-event.ensures c.before.before.before.event_word.ensures c.before.before.event_word-2.ensures c.before.get_word-2.ensures c.is_copying_back.ensures))

@@ -11,7 +11,7 @@ is_masked_spec =
     tie.close
     (tie.spec
     (λ c κs. search rules)
-    (λ c. let e = sym c.before.is-copying-back.ensures ∙ c.if1.true in search code depth 12)
-    (λ c. let e = sym c.before.before.is-copying-back.ensures ∙ c.before.if1.false in search code depth 12)
+    (λ c. let e = sym c.before.is_copying_back.ensures ∙ c.if-is_copying_back.true in search code depth 12)
+    (λ c. let e = sym c.before.before.is_copying_back.ensures ∙ c.before.if-is_copying_back.false in search code depth 12)
     (λ c. search rules)
-    (λ c. let e = sym c.before.before.is-copying-back.ensures ∙ c.before.if1.false in search code depth 12))
+    (λ c. let e = sym c.before.before.is_copying_back.ensures ∙ c.before.if-is_copying_back.false in search code depth 12))
