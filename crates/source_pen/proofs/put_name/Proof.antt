@@ -14,7 +14,7 @@ part_put_apart_end c =
 returns : tie.Need-returns
 returns c =
     let k = c.put_digits-first.ensures in
-    let text = c.put_digits-first.new.1.0 in
+    let text = c.put_digits-first.new.text in
     let r = c.put_digits-first.result in
     let letter = c.args.letter in
     let named = set text (r - 1) letter in (

@@ -12,7 +12,7 @@ returns : tie.Need-returns
 returns c =
     let n = c.args.n in
     let k = c.put_digits-i.ensures in
-    let text = c.put_digits-i.new.1.0 in
+    let text = c.put_digits-i.new.text in
     let r = c.put_digits-i.result in (
       apart_number n (part_digits text r n k.1.1 k.0) c.put_apart.ensures,
       apart_short (take (11 - r) (drop r text)) c.put_apart.ensures (part_short text r k.1.1),

@@ -48,5 +48,5 @@ pub put_spelling_spec : {M : Type 1} → statement M
 put_spelling_spec =
     tie.close
     (tie.spec put_bytes_requires (λ c. search rules) returns (λ c κs. search rules) put_bytes_requires_2
-    (λ c. search rules) returns_2 (λ c. search rules) (λ c κs. search rules) put_bytes_requires_4 (λ c. search rules)
+    (λ c. search rules) returns_2 (λ c κs. search rules) put_bytes_requires_4 (λ c. search rules)
     returns_3 put_apart_requires (λ c. search rules) returns_4)
