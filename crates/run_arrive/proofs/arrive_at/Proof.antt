@@ -80,91 +80,88 @@ abbrev asked : tie.Start → (List ℕ → List ℕ → ℕ → ℕ → CallResu
 asked c f = f c.args.table.now c.args.round.now c.args.event c.args.player
 
 -- where the round is ours
-module _ (c : tie.Else1) where
+module _ (c : tie.Else-not-is_ours) where
   abbrev entry : tie.Start
-  entry = c.before.before.before.before.before
+  entry = c.before.before.before.before
 
   valid : Bounds entry.args.table.now entry.args.round.now
-  valid = c.before.is_ours.ensures.1 (not-false _ c.if1.false)
+  valid = c.is_ours.ensures.1 (not-false _ c.if-not-is_ours.false)
 
   inside : {r : CallResult} → r ≡ asked entry arrive_in → r ≡ asked entry arrive_on
-  inside = opened _ _ _ _ c.before.is_ours.ensures.0 (not-false _ c.if1.false)
+  inside = opened _ _ _ _ c.is_ours.ensures.0 (not-false _ c.if-not-is_ours.false)
 
 -- where the event is declared
-module _ (c : tie.Else3) where
-  abbrev ours_at : tie.Else1
+module _ (c : tie.Else-get_word-event) where
+  abbrev ours_at : tie.Else-not-is_ours
   ours_at = c.before.before.before
 
   declared : {r : CallResult} → r ≡ asked (entry ours_at) arrive_known → r ≡ asked (entry ours_at) arrive_on
   declared q =
-      inside ours_at (known _ _ _ _ c.before.before.if2.false c.before.get-word.ensures c.if3.false q)
+      inside ours_at (known _ _ _ _ c.if-player-ge-PLAYERS.false c.get_word.ensures c.if-get_word-event.false q)
 
 -- where it is known whether the queue is full
-module _ (c : tie.After-is-full) where
-  abbrev right_at : tie.Else4
+module _ (c : tie.After-is_full) where
+  abbrev right_at : tie.Else-not-may_send
   right_at = c.before.before.before.before.before
 
-  abbrev valid_at : tie.Else1
+  abbrev valid_at : tie.Else-not-is_ours
   valid_at = ours_at right_at.before.before
 
-  abbrev count_at : tie.After-get-word2
+  abbrev count_at : tie.After-get_word-waiting
   count_at = c.before.before.before
 
   allowed : {r : CallResult}
       → r ≡ asked (entry valid_at)
-      (λ t l e who. arrive_with l e who true count_at.get-word2.result c.is_full.result (taken l))
+      (λ t l e who. arrive_with l e who true count_at.get_word-waiting.result c.is_full.result (taken l))
       → r ≡ asked (entry valid_at) arrive_on
   allowed q =
-      declared right_at.before.before (with_right _ _ _ _ right_at.before.may-send.ensures
-      (not-false _ right_at.if4.left) count_at.get-word2.ensures
-      c.before.get-word3.ensures c.is_full.ensures.0 q)
+      declared right_at.before.before (with_right _ _ _ _ right_at.may_send.ensures
+      (not-false _ right_at.if-not-may_send.left) count_at.get_word-waiting.ensures
+      c.get_word-2.ensures c.is_full.ensures.0 q)
 
 -- back from the slot written to where there is room
-abbrev room_at : tie.After-put-slot → tie.Else5
+abbrev room_at : tie.After-put_slot → tie.Else-is_full
 room_at c = c.before.before.before.before.before
 
-has_room : (c : tie.Else5) → (count_at c.before).get-word2.result < 64
-has_room c = c.before.is_full.ensures.1 c.if5.false
+has_room : (c : tie.Else-is_full) → (count_at c.before).get_word-waiting.result < 64
+has_room c = c.is_full.ensures.1 c.if-is_full.false
 
-returns_3 : tie.Need-returns-3
+returns_3 : tie.Need-returns-then-get_word-event
 returns_3 c =
     told _ _ _ _ (inside c.before.before.before
-    (undeclared _ _ _ _ c.before.before.if2.false c.before.get-word.ensures c.if3.true))
+    (undeclared _ _ _ _ c.if-player-ge-PLAYERS.false c.get_word.ensures c.if-get_word-event.true))
 
-returns_4 : tie.Need-returns-4
+returns_4 : tie.Need-returns-then-not-may_send
 returns_4 c =
     told _ _ _ _ (declared c.before.before
-    (no_right_law _ _ _ _ c.before.may-send.ensures (not-true _ c.if4.true)))
+    (no_right_law _ _ _ _ c.may_send.ensures (not-true _ c.if-not-may_send.true)))
 
-returns_6 : tie.Need-returns-6
+returns_6 : tie.Need-returns-then-number-ge-ARRIVALS
 returns_6 c =
-    let room = c.before.before.before in
-    told _ _ _ _ (allowed room.before
-    (all_taken _ _ _ _ room.if5.false c.before.get-word4.ensures c.if6.true))
+    told _ _ _ _ (allowed c.before.before.before.before
+    (all_taken _ _ _ _ c.if-is_full.false c.get_word-number.ensures c.if-number-ge-ARRIVALS.true))
 
-put_slot_requires : tie.Need-put-slot-requires
+put_slot_requires : tie.Need-put_slot-requires
 put_slot_requires c κs =
     let b = valid (valid_at c.before.before.before.before.before) in
     let h = has_room c.before.before.before.before in
     search rules
 
-returns_7 : tie.Need-returns-7
+returns_7 : tie.Need-returns
 returns_7 c =
-    let number = c.before.before.before.before.before.before in
-    let slot = number.before.before.before.before in
-    let room = room_at slot in
+    let room = room_at c.before.before.before.before.before.before.before.before.before.before in
     told _ _ _ _ (allowed room.before
-    (joins _ _ _ _ room.if5.left slot.before.before.before.get-word4.ensures
-    slot.before.before.if6.false slot.put-slot.ensures number.put_word.ensures
-    c.before.before.put-word2.ensures))
+    (joins _ _ _ _ room.if-is_full.left c.get_word-number.ensures
+    c.if-number-ge-ARRIVALS.false c.put_slot.ensures c.put_word.ensures
+    c.put_word-2.ensures))
 
 pub arrive_at_spec : {M : Type 1} → statement M
 arrive_at_spec =
     tie.close
     (tie.spec (search rules) (search rules)
-    (λ c. told _ _ _ _ (foreign _ _ _ _ c.before.is_ours.ensures.0 (not-true _ c.if1.true)))
+    (λ c. told _ _ _ _ (foreign _ _ _ _ c.is_ours.ensures.0 (not-true _ c.if-not-is_ours.true)))
     (search rules)
-    (λ c. told _ _ _ _ (inside c.before (no_player_law _ _ _ _ c.if2.true)))
+    (λ c. told _ _ _ _ (inside c.before (no_player_law _ _ _ _ c.if-player-ge-PLAYERS.true)))
     (λ c κs. let b = valid c.before in search rules)
     (search rules) returns_3
     (λ c κs. let b = valid (ours_at c) in search rules)
@@ -172,7 +169,7 @@ arrive_at_spec =
     (λ c κs. let b = valid (ours_at c.before.before.before) in search rules)
     (λ c κs. let b = valid (ours_at c.before.before.before.before.before) in search rules)
     (search rules) (search rules)
-    (λ c. told _ _ _ _ (allowed c.before (no_room _ _ _ _ c.if5.true)))
+    (λ c. told _ _ _ _ (allowed c.before (no_room _ _ _ _ c.if-is_full.true)))
     (λ c κs. let b = valid (valid_at c.before.before) in search rules)
     (search rules) returns_6 (search rules) (search rules)
     (λ c. let b = valid (valid_at c.before.before.before.before.before) in search rules)
