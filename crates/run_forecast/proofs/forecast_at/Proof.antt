@@ -25,30 +25,30 @@ module _ (t l : List ℕ) {x : Bool} (p : x ≡ ours t l) where
   one_runs {n} {f} h q r k s o z = rw (← p, h, ← q, ← r, ne_eqb f 0 k, ← s, ← o, ← z)
 
 -- the round is ours, so its bounds hold
-valid : (c : tie.Else1) → Bounds c.before.before.before.before.args.table.now
+valid : (c : tie.Else-not-is_ours) → Bounds c.before.before.before.before.args.table.now
     c.before.before.before.before.args.round.now
-valid c = c.before.is_ours.ensures.1 (not-false _ c.if1.false)
+valid c = c.before.is_ours.ensures.1 (not-false _ c.if-not-is_ours.false)
 
-returns_2 : tie.Need-returns-2
+returns_2 : tie.Need-returns-then-get_word-eq0
 returns_2 c =
     let ours = c.before.before.before.before in
-    none_runs _ _ ours.before.is_ours.ensures.0 (not-false _ ours.if1.false)
-    c.before.before.before.get-word.ensures c.before.before.get-word2.ensures c.before.if2.true
-    c.steps-in.ensures
+    none_runs _ _ ours.before.is_ours.ensures.0 (not-false _ ours.if-not-is_ours.false)
+    c.before.before.before.get_word-waiting.ensures c.before.before.get_word.ensures c.before.if-get_word-eq0.true
+    c.steps_in.ensures
 
-returns_3 : tie.Need-returns-3
+returns_3 : tie.Need-returns
 returns_3 c =
     let runs = c.before.before.before in
     let ours = runs.before.before.before in
-    one_runs _ _ ours.before.is_ours.ensures.0 (not-false _ ours.if1.false)
-    runs.before.before.get-word.ensures runs.before.get-word2.ensures runs.if2.false
-    c.before.before.get-word3.ensures c.before.longest-of.ensures.0 c.bound_of.ensures
+    one_runs _ _ ours.before.is_ours.ensures.0 (not-false _ ours.if-not-is_ours.false)
+    runs.before.before.get_word-waiting.ensures runs.before.get_word.ensures runs.if-get_word-eq0.false
+    c.before.before.get_word-2.ensures c.before.longest_of-longest.ensures.0 c.bound_of.ensures
 
 pub forecast_at_spec : {M : Type 1} → statement M
 forecast_at_spec =
     tie.close
     (tie.spec (search rules)
-    (λ c. foreign _ _ c.before.is_ours.ensures.0 (not-true _ c.if1.true))
+    (λ c. foreign _ _ c.before.is_ours.ensures.0 (not-true _ c.if-not-is_ours.true))
     (λ c κs. let b = valid c in search rules)
     (λ c κs. let b = valid c.before in search rules)
     (search rules)

@@ -19,10 +19,10 @@ turn {t} {n} {m} {e} {w} {x} k b h g p q = record {
   within = omega arith;
 }
 
-abbrev invariant-loop : tie.invariant-loop
+abbrev invariant-loop : tie.invariant-loop-event
 invariant-loop t n m₀ e₀ m e = Turn t n m e
 
-abbrev decreases-loop : tie.decreases-loop
+abbrev decreases-loop : tie.decreases-loop-event
 decreases-loop t n m₀ e₀ m e = n - e
 
 pub longest_of_spec : {M : Type 1} → statement M
@@ -37,7 +37,7 @@ longest_of_spec =
     (λ c κs. tt)
     (λ c. omega arith)
     (λ c. omega arith)
-    (λ c. turn c.before.before.before.loop.invariant c.before.before.before.before.before.requires.0 (omega arith) (omega arith) c.before.event_word_law.ensures c.larger.ensures)
+    (λ c. turn c.before.before.before.loop-event.invariant c.before.before.before.before.before.requires.0 (omega arith) (omega arith) c.before.event_word.ensures c.larger-longest.ensures)
     (λ c.
-    let e : c.before.loop.event ≡ c.before.before.before.args.n = omega arith in
-    (rw e at c.before.loop.invariant.same, c.before.loop.invariant.small)))
+    let e : c.before.loop-event.event ≡ c.before.before.before.args.n = omega arith in
+    (rw e at c.before.loop-event.invariant.same, c.before.loop-event.invariant.small)))

@@ -24,17 +24,17 @@ turn {t} {l} {n} {s} {i} {e} {w} k b m h p q = record {
   within = omega arith;
 }
 
-abbrev invariant-loop : tie.invariant-loop
+abbrev invariant-loop : tie.invariant-loop-i
 invariant-loop t l n s₀ i₀ s i = Turn t l n s i
 
-abbrev decreases-loop : tie.decreases-loop
+abbrev decreases-loop : tie.decreases-loop-i
 decreases-loop t l n s₀ i₀ s i = n - i
 
 -- what the loop reads
-read : (c : tie.After-event-word invariant-loop decreases-loop) → c.event_word_law.result ≤ 4096
+read : (c : tie.After-event_word invariant-loop decreases-loop) → c.event_word.result ≤ 4096
 read c =
-    short _ _ c.before.before.before.loop.i c.before.before.before.before.before.before.requires.0 (omega arith) c.before.event_at_law.ensures
-    c.event_word_law.ensures
+    short _ _ c.before.before.before.loop-i.i c.before.before.before.before.before.before.requires.0 (omega arith) c.before.event_at-event.ensures
+    c.event_word.ensures
 
 pub steps_in_spec : {M : Type 1} → statement M
 unfolding steps_in
@@ -49,10 +49,10 @@ steps_in_spec =
     (λ c κs. omega (arith, c.before.before.before.before.requires.0.round.long))
     (λ c κs. (c.before.before.before.before.before.requires.0.table.long, omega arith))
     (λ c. omega (arith, read c))
-    (λ c. omega (arith, read c, c.before.before.before.loop.invariant.small))
+    (λ c. omega (arith, read c, c.before.before.before.loop-i.invariant.small))
     (λ c. omega arith)
     (λ c. omega arith)
-    (λ c. turn c.before.before.before.loop.invariant c.before.before.before.before.before.before.requires.0 (omega arith) (omega arith) c.before.event_at_law.ensures c.event_word_law.ensures)
+    (λ c. turn c.before.before.before.loop-i.invariant c.before.before.before.before.before.before.requires.0 (omega arith) (omega arith) c.before.event_at-event.ensures c.event_word.ensures)
     (λ c.
-    let e : c.before.loop.i ≡ c.before.before.before.before.args.n = omega arith in
-    rw e at c.before.loop.invariant.same))
+    let e : c.before.loop-i.i ≡ c.before.before.before.before.args.n = omega arith in
+    rw e at c.before.loop-i.invariant.same))
