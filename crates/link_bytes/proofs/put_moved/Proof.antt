@@ -25,6 +25,6 @@ put_moved_spec =
     (λ c. omega arith)
     (λ c. let u = c.loop-at.invariant in omega (arith, u.count, u.room, u.kept))
     (λ c. omega arith)
-    (λ c. moving_on c.loop-at.invariant c.loop-at-test.true refl c.lift.ensures c.tag_after-tag.ensures c.left_After.ensures)
+    (λ c. moving_on c.loop-at.invariant c.loop-at-test.true refl c.lift.ensures c.tag_after-tag.ensures c.left_after-left.ensures)
     (λ c. c.loop-at.invariant.kept)
     (λ c. let u = c.loop-at.invariant in (moving_end u c.loop-at-test.false, omega (arith, u.count, c.loop-at-test.false))))
