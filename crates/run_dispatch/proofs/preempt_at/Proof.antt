@@ -7,15 +7,13 @@ use Rattle.run_dispatch.proofs.preempt_at.Tie as tie
 returns : tie.Need-returns
 unfolding preempt_at
 returns c =
-    let at_put_slot = c.before.before.before.before.before.before.before in
-    let at_get_word2 = at_put_slot.before.before.before.before.before.before in
     cc (
-      at_get_word2.before.before.get-word.ensures,
-      at_get_word2.get-word2.ensures,
-      at_put_slot.before.before.before.before.get-word3.ensures,
-      at_put_slot.before.before.get-word4.ensures,
-      at_put_slot.put-slot.ensures,
-      c.before.before.before.set-running.ensures,
+      c.get_word-number.ensures,
+      c.get_word-word.ensures,
+      c.get_word-old_number.ensures,
+      c.get_word-old_word.ensures,
+      c.put_slot.ensures,
+      c.set_running.ensures,
       c.said_of.ensures,
     )
 

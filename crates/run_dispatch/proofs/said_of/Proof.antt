@@ -20,4 +20,4 @@ said_of_spec =
     (λ c. search rules)
     (λ c. search rules)
     (λ c. search rules)
-    (λ c. rw (c.player-of.ensures, c.before.event-of.ensures) (search code depth 12)))
+    (λ c. rw (c.player_of-player.ensures, c.before.event_of-event.ensures) (search code depth 12)))

@@ -12,11 +12,11 @@ returns c =
     let at_put_word = at_put_word3.before.before.before.before.before.before.before.before in
     cc (
       at_put_word.put_word.ensures,
-      at_put_word3.before.before.before.before.put-word2.ensures,
-      at_put_word3.put-word3.ensures,
-      at_put_word5.before.before.before.before.put-word4.ensures,
-      at_put_word5.put-word5.ensures,
-      c.before.before.put-word6.ensures,
+      at_put_word3.before.before.before.before.put_word-2.ensures,
+      at_put_word3.put_word-3.ensures,
+      at_put_word5.before.before.before.before.put_word-4.ensures,
+      at_put_word5.put_word-5.ensures,
+      c.before.before.put_word-6.ensures,
     )
 
 pub set_running_spec : {M : Type 1} → statement M
