@@ -11,7 +11,7 @@ fault_word_requires c κs =
 
 returns : tie.Need-returns-in_default
 returns c =
-    name_other _ _ c.token_at-t.result _ _ c.match.keys2 c.token_at-t.ensures.0 c.place_of.ensures c.fault_word.ensures
+    name_other _ _ c.token_at-t.result _ _ c.in_default.in_default-own.keys2 c.token_at-t.ensures.0 c.place_of.ensures c.fault_word.ensures
 
 returns_2 : tie.Need-returns
 returns_2 c =

@@ -11,7 +11,7 @@ fault_word_requires c κs =
 
 returns : tie.Need-returns-in_default
 returns c =
-    number_other _ _ _ c.args.t _ _ c.match.keys2 c.requires.1.0 c.place_of.ensures c.fault_word.ensures
+    number_other _ _ _ c.args.t _ _ c.in_default.in_default-own.keys2 c.requires.1.0 c.place_of.ensures c.fault_word.ensures
 
 fault_word_requires_2 : tie.Need-fault_word-requires-then-top-v
 fault_word_requires_2 c κs =

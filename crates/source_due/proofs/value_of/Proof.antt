@@ -16,7 +16,7 @@ number_due_requires c κs =
 returns_2 : tie.Need-returns-in_default-number
 returns_2 c =
     minus_bad _ _ _ _ _ _ c.in-Found.is c.sign_of-minus.ensures.0 c.sign_of-minus.ensures.1
-    c.number_due-number.result _ c.in_default-number.field-0.1 c.number_due-number.ensures.0 c.number_due-number.ensures.1
+    c.number_due-number.result _ c.in_default-number.is c.number_due-number.ensures.0 c.number_due-number.ensures.1
 
 negated_requires : tie.Need-negated-requires
 negated_requires c κs =
