@@ -56,56 +56,56 @@ claims_put_term t = (
   put-sign-reads.Learnt,
 )
 
-put_term_returns : (t : ℕ) → put-term-lts.Need-returns (claims_put_term t) (put_term_at t) put-term.Post
+put_term_returns : (t : ℕ) → put-term-lts.Need-returns-then-due-eq0 (claims_put_term t) (put_term_at t) put-term.Post
 put_term_returns t c =
     let at_entry_lem = c.before.before.before.before in
-    wrote_as (wrote_none _ _ at_entry_lem.requires.1.1) (term_none _ _ _ _ _ c.if1.true)
+    wrote_as (wrote_none _ _ at_entry_lem.requires.1.1) (term_none _ _ _ _ _ c.if-due-eq0.true)
 
-put_term_byte_from_requires : (t : ℕ) → put-term-lts.Need-byte-from-requires (claims_put_term t) (put_term_at t) put-term.Post
+put_term_byte_from_requires : (t : ℕ) → put-term-lts.Need-byte_from-requires (claims_put_term t) (put_term_at t) put-term.Post
 put_term_byte_from_requires t c κs = search rules
 
-put_term_put_leaf_requires : (t : ℕ) → put-term-lts.Need-write-leaf-requires (claims_put_term t) (put_term_at t) put-term.Post
+put_term_put_leaf_requires : (t : ℕ) → put-term-lts.Need-write_leaf-requires (claims_put_term t) (put_term_at t) put-term.Post
 put_term_put_leaf_requires t c κs = search rules
 
-put_term_same_length : (t : ℕ) → put-term-lts.Need-same-length (claims_put_term t) (put_term_at t) put-term.Post
+put_term_same_length : (t : ℕ) → put-term-lts.Need-shape_of-out-then-byte_from-ne-APPLICATION (claims_put_term t) (put_term_at t) put-term.Post
 put_term_same_length t c = search rules
 
-put_term_returns_2 : (t : ℕ) → put-term-lts.Need-returns-2 (claims_put_term t) (put_term_at t) put-term.Post
+put_term_returns_2 : (t : ℕ) → put-term-lts.Need-returns-then-byte_from-ne-APPLICATION (claims_put_term t) (put_term_at t) put-term.Post
 put_term_returns_2 t c =
     let at_put_leaf = c.before.before in
     let at_if2 = at_put_leaf.before.before in
     let at_byte_from = at_if2.before in
     let at_if1 = at_byte_from.before in
     let at_entry_lem = at_if1.before.before.before.before in
-    wrote_as at_put_leaf.write-leaf.ensures (term_leaf _ _ _ _ _ at_if1.if1.false at_byte_from.byte-from.ensures at_if2.if2.true)
+    wrote_as at_put_leaf.write_leaf.ensures (term_leaf _ _ _ _ _ at_if1.if-due-eq0.false at_byte_from.byte_from.ensures at_if2.if-byte_from-ne-APPLICATION.true)
 
-put_term_byte_from_requires_2 : (t : ℕ) → put-term-lts.Need-byte-from-requires-2 (claims_put_term t) (put_term_at t) put-term.Post
+put_term_byte_from_requires_2 : (t : ℕ) → put-term-lts.Need-byte_from-f-requires (claims_put_term t) (put_term_at t) put-term.Post
 put_term_byte_from_requires_2 t c κs = search rules
 
-put_term_onward_requires : (t : ℕ) → put-term-lts.Need-onward-requires (claims_put_term t) (put_term_at t) put-term.Post
+put_term_onward_requires : (t : ℕ) → put-term-lts.Need-onward-one-requires (claims_put_term t) (put_term_at t) put-term.Post
 put_term_onward_requires t c κs = search rules
 
-put_term_put_head_requires : (t : ℕ) → put-term-lts.Need-put-head-requires (claims_put_term t) (put_term_at t) put-term.Post
+put_term_put_head_requires : (t : ℕ) → put-term-lts.Need-put_head-headed-requires (claims_put_term t) (put_term_at t) put-term.Post
 put_term_put_head_requires t c κs = search rules
 
-put_term_sub_room : (t : ℕ) → put-term-lts.Need-overflow-sub-t26 (claims_put_term t) (put_term_at t) put-term.Post
+put_term_sub_room : (t : ℕ) → put-term-lts.Need-overflow_sub-first_due (claims_put_term t) (put_term_at t) put-term.Post
 put_term_sub_room t c = search rules
 
-put_term_first_level_requires : (t : ℕ) → put-term-lts.Need-first-level-requires (claims_put_term t) (put_term_at t) put-term.Post
+put_term_first_level_requires : (t : ℕ) → put-term-lts.Need-first_level-requires (claims_put_term t) (put_term_at t) put-term.Post
 put_term_first_level_requires t c κs = search rules
 
-put_term_put_term_requires : (t : ℕ) → put-term-lts.Need-put-term-requires (claims_put_term t) (put_term_at t) put-term.Post
+put_term_put_term_requires : (t : ℕ) → put-term-lts.Need-put_term-after_one-requires (claims_put_term t) (put_term_at t) put-term.Post
 put_term_put_term_requires t c κs =
     let at_put_head = c.before.before.before.before.before in
     let at_Onward = at_put_head.before.before in
     let at_if1 = at_Onward.before.before.before.before in
     let at_entry_lem = at_if1.before.before.before.before in
-    (omega (arith, at_entry_lem.requires.0, at_if1.if1.false), ((at_entry_lem.requires.1.0.0, at_Onward.onward.ensures.1, at_entry_lem.requires.1.0.2), at_put_head.put-head.ensures.stops))
+    (omega (arith, at_entry_lem.requires.0, at_if1.if-due-eq0.false), ((at_entry_lem.requires.1.0.0, at_Onward.onward-one.ensures.1, at_entry_lem.requires.1.0.2), at_put_head.put_head-headed.ensures.stops))
 
-put_term_same_length_2 : (t : ℕ) → put-term-lts.Need-same-length-2 (claims_put_term t) (put_term_at t) put-term.Post
+put_term_same_length_2 : (t : ℕ) → put-term-lts.Need-shape_of-out-then-f-eq-NOT (claims_put_term t) (put_term_at t) put-term.Post
 put_term_same_length_2 t c = search rules
 
-put_term_returns_3 : (t : ℕ) → put-term-lts.Need-returns-3 (claims_put_term t) (put_term_at t) put-term.Post
+put_term_returns_3 : (t : ℕ) → put-term-lts.Need-returns-then-f-eq-NOT (claims_put_term t) (put_term_at t) put-term.Post
 put_term_returns_3 t c =
     let at_put_term = c.before.before.before in
     let at_first_level = at_put_term.before.before in
@@ -116,28 +116,28 @@ put_term_returns_3 t c =
     let at_byte_from = at_if2.before in
     let at_if1 = at_byte_from.before in
     let at_entry_lem = at_if1.before.before.before.before in
-    wrote_as (wrote_on at_put_head.put-head.ensures at_put_term.put-term.ensures)
-    (one_argument _ _ _ _ _ _ at_if1.if1.false at_byte_from.byte-from.ensures at_if2.if2.false at_byte_from2.byte-from2.ensures
-    at_Onward.onward.ensures.0 at_first_level.first-level.ensures c.if3.true)
+    wrote_as (wrote_on at_put_head.put_head-headed.ensures at_put_term.put_term-after_one.ensures)
+    (one_argument _ _ _ _ _ _ at_if1.if-due-eq0.false at_byte_from.byte_from.ensures at_if2.if-byte_from-ne-APPLICATION.false at_byte_from2.byte_from-f.ensures
+    at_Onward.onward-one.ensures.0 at_first_level.first_level.ensures c.if-f-eq-NOT.true)
 
-put_term_after_field_requires : (t : ℕ) → put-term-lts.Need-after-field-requires (claims_put_term t) (put_term_at t) put-term.Post
+put_term_after_field_requires : (t : ℕ) → put-term-lts.Need-after_field-two-requires (claims_put_term t) (put_term_at t) put-term.Post
 put_term_after_field_requires t c κs = search rules
 
-put_term_put_between_requires : (t : ℕ) → put-term-lts.Need-put-between-requires (claims_put_term t) (put_term_at t) put-term.Post
+put_term_put_between_requires : (t : ℕ) → put-term-lts.Need-put_between-joined-requires (claims_put_term t) (put_term_at t) put-term.Post
 put_term_put_between_requires t c κs = search rules
 
-put_term_sub_room_2 : (t : ℕ) → put-term-lts.Need-overflow-sub-t26-2 (claims_put_term t) (put_term_at t) put-term.Post
+put_term_sub_room_2 : (t : ℕ) → put-term-lts.Need-overflow_sub-second_due (claims_put_term t) (put_term_at t) put-term.Post
 put_term_sub_room_2 t c =
     let at_if3 = c.before.before.before.before.before.before in
     let at_put_head = at_if3.before.before.before.before.before.before.before.before.before in
     let at_put_head_arg = at_put_head.before in
     let at_if1 = at_put_head_arg.before.before.before.before.before in
-    omega (arith, at_if1.if1.false)
+    omega (arith, at_if1.if-due-eq0.false)
 
-put_term_second_level_requires : (t : ℕ) → put-term-lts.Need-second-level-requires (claims_put_term t) (put_term_at t) put-term.Post
+put_term_second_level_requires : (t : ℕ) → put-term-lts.Need-second_level-requires (claims_put_term t) (put_term_at t) put-term.Post
 put_term_second_level_requires t c κs = search rules
 
-put_term_put_term_requires_2 : (t : ℕ) → put-term-lts.Need-put-term-requires-2 (claims_put_term t) (put_term_at t) put-term.Post
+put_term_put_term_requires_2 : (t : ℕ) → put-term-lts.Need-put_term-after_two-requires (claims_put_term t) (put_term_at t) put-term.Post
 put_term_put_term_requires_2 t c κs =
     let at_put_between = c.before.before.before.before.before in
     let at_after_field = at_put_between.before.before in
@@ -147,12 +147,12 @@ put_term_put_term_requires_2 t c κs =
     let at_Onward = at_put_head_arg.before in
     let at_if1 = at_Onward.before.before.before.before in
     let at_entry_lem = at_if1.before.before.before.before in
-    (omega (arith, at_entry_lem.requires.0, at_if1.if1.false), ((at_entry_lem.requires.1.0.0, at_after_field.after_field_law.ensures.1, at_entry_lem.requires.1.0.2), at_put_between.put-between.ensures.stops))
+    (omega (arith, at_entry_lem.requires.0, at_if1.if-due-eq0.false), ((at_entry_lem.requires.1.0.0, at_after_field.after_field-two.ensures.1, at_entry_lem.requires.1.0.2), at_put_between.put_between-joined.ensures.stops))
 
-put_term_put_unless_requires : (t : ℕ) → put-term-lts.Need-put-unless-requires (claims_put_term t) (put_term_at t) put-term.Post
+put_term_put_unless_requires : (t : ℕ) → put-term-lts.Need-put_unless-requires (claims_put_term t) (put_term_at t) put-term.Post
 put_term_put_unless_requires t c κs = search rules
 
-put_term_returns_4 : (t : ℕ) → put-term-lts.Need-returns-4 (claims_put_term t) (put_term_at t) put-term.Post
+put_term_returns_4 : (t : ℕ) → put-term-lts.Need-returns-then-f-ne-IF (claims_put_term t) (put_term_at t) put-term.Post
 put_term_returns_4 t c =
     let at_put_unless = c.before.before in
     let at_if4 = at_put_unless.before.before in
@@ -171,22 +171,22 @@ put_term_returns_4 t c =
     let at_if1 = at_byte_from.before in
     let at_entry_lem = at_if1.before.before.before.before in
     wrote_as
-    (wrote_on at_put_head.put-head.ensures (wrote_on at_put_term.put-term.ensures (wrote_on at_put_between.put-between.ensures
-    (wrote_on at_put_term2.put-term2.ensures at_put_unless.put-unless.ensures))))
-    (two_arguments _ _ _ _ _ _ at_if1.if1.false at_byte_from.byte-from.ensures at_if2.if2.false at_byte_from2.byte-from2.ensures
-    at_Onward.onward.ensures.0 at_first_level.first-level.ensures at_second_level.second-level.ensures at_after_field.after_field_law.ensures.0
-    at_if3.if3.false at_if4.if4.true)
+    (wrote_on at_put_head.put_head-headed.ensures (wrote_on at_put_term.put_term-after_one.ensures (wrote_on at_put_between.put_between-joined.ensures
+    (wrote_on at_put_term2.put_term-after_two.ensures at_put_unless.put_unless.ensures))))
+    (two_arguments _ _ _ _ _ _ at_if1.if-due-eq0.false at_byte_from.byte_from.ensures at_if2.if-byte_from-ne-APPLICATION.false at_byte_from2.byte_from-f.ensures
+    at_Onward.onward-one.ensures.0 at_first_level.first_level.ensures at_second_level.second_level.ensures at_after_field.after_field-two.ensures.0
+    at_if3.if-f-eq-NOT.false at_if4.if-f-ne-IF.true)
 
-put_term_same_length_3 : (t : ℕ) → put-term-lts.Need-same-length-3 (claims_put_term t) (put_term_at t) put-term.Post
+put_term_same_length_3 : (t : ℕ) → put-term-lts.Need-shape_of-out-then-f-ne-IF (claims_put_term t) (put_term_at t) put-term.Post
 put_term_same_length_3 t c = (put_term_returns_4 t c).as_long
 
-put_term_after_field_requires_2 : (t : ℕ) → put-term-lts.Need-after-field-requires-2 (claims_put_term t) (put_term_at t) put-term.Post
+put_term_after_field_requires_2 : (t : ℕ) → put-term-lts.Need-after_field-three-requires (claims_put_term t) (put_term_at t) put-term.Post
 put_term_after_field_requires_2 t c κs = search rules
 
-put_term_put_sign_requires : (t : ℕ) → put-term-lts.Need-write-sign-requires (claims_put_term t) (put_term_at t) put-term.Post
+put_term_put_sign_requires : (t : ℕ) → put-term-lts.Need-write_sign-comma-requires (claims_put_term t) (put_term_at t) put-term.Post
 put_term_put_sign_requires t c κs = search rules
 
-put_term_sub_room_3 : (t : ℕ) → put-term-lts.Need-overflow-sub-t26-3 (claims_put_term t) (put_term_at t) put-term.Post
+put_term_sub_room_3 : (t : ℕ) → put-term-lts.Need-overflow_sub-third_due (claims_put_term t) (put_term_at t) put-term.Post
 put_term_sub_room_3 t c =
     let at_if4 = c.before.before.before.before.before.before in
     let at_put_between = at_if4.before.before.before.before.before.before.before.before.before in
@@ -195,9 +195,9 @@ put_term_sub_room_3 t c =
     let at_put_head = at_if3.before.before.before.before.before.before.before.before.before in
     let at_put_head_arg = at_put_head.before in
     let at_if1 = at_put_head_arg.before.before.before.before.before in
-    omega (arith, at_if1.if1.false)
+    omega (arith, at_if1.if-due-eq0.false)
 
-put_term_put_term_requires_3 : (t : ℕ) → put-term-lts.Need-put-term-requires-3 (claims_put_term t) (put_term_at t) put-term.Post
+put_term_put_term_requires_3 : (t : ℕ) → put-term-lts.Need-put_term-after_three-requires (claims_put_term t) (put_term_at t) put-term.Post
 put_term_put_term_requires_3 t c κs =
     let at_put_sign = c.before.before.before.before in
     let at_after_field2 = at_put_sign.before.before in
@@ -208,12 +208,12 @@ put_term_put_term_requires_3 t c κs =
     let at_put_head_arg = at_put_head.before in
     let at_if1 = at_put_head_arg.before.before.before.before.before in
     let at_entry_lem = at_if1.before.before.before.before in
-    (omega (arith, at_entry_lem.requires.0, at_if1.if1.false), ((at_entry_lem.requires.1.0.0, at_after_field2.after-field2.ensures.1, at_entry_lem.requires.1.0.2), at_put_sign.write-sign.ensures.stops))
+    (omega (arith, at_entry_lem.requires.0, at_if1.if-due-eq0.false), ((at_entry_lem.requires.1.0.0, at_after_field2.after_field-three.ensures.1, at_entry_lem.requires.1.0.2), at_put_sign.write_sign-comma.ensures.stops))
 
-put_term_put_sign_requires_2 : (t : ℕ) → put-term-lts.Need-write-sign-requires-2 (claims_put_term t) (put_term_at t) put-term.Post
+put_term_put_sign_requires_2 : (t : ℕ) → put-term-lts.Need-write_sign-requires (claims_put_term t) (put_term_at t) put-term.Post
 put_term_put_sign_requires_2 t c κs = search rules
 
-put_term_returns_5 : (t : ℕ) → put-term-lts.Need-returns-5 (claims_put_term t) (put_term_at t) put-term.Post
+put_term_returns_5 : (t : ℕ) → put-term-lts.Need-returns (claims_put_term t) (put_term_at t) put-term.Post
 put_term_returns_5 t c =
     let at_put_sign2 = c.before.before in
     let at_put_term3 = at_put_sign2.before.before.before.before in
@@ -235,14 +235,14 @@ put_term_returns_5 t c =
     let at_if1 = at_byte_from.before in
     let at_entry_lem = at_if1.before.before.before.before in
     wrote_as
-    (wrote_on at_put_head.put-head.ensures (wrote_on at_put_term.put-term.ensures (wrote_on at_put_between.put-between.ensures
-    (wrote_on at_put_term2.put-term2.ensures (wrote_on at_put_sign.write-sign.ensures
-    (wrote_on at_put_term3.put-term3.ensures at_put_sign2.write-sign2.ensures))))))
-    (three_arguments _ _ _ _ _ _ at_if1.if1.false at_byte_from.byte-from.ensures at_if2.if2.false at_byte_from2.byte-from2.ensures
-    at_Onward.onward.ensures.0 at_first_level.first-level.ensures at_second_level.second-level.ensures at_after_field.after_field_law.ensures.0
-    at_after_field2.after-field2.ensures.0 at_if3.if3.false at_if4.if4.false)
+    (wrote_on at_put_head.put_head-headed.ensures (wrote_on at_put_term.put_term-after_one.ensures (wrote_on at_put_between.put_between-joined.ensures
+    (wrote_on at_put_term2.put_term-after_two.ensures (wrote_on at_put_sign.write_sign-comma.ensures
+    (wrote_on at_put_term3.put_term-after_three.ensures at_put_sign2.write_sign.ensures))))))
+    (three_arguments _ _ _ _ _ _ at_if1.if-due-eq0.false at_byte_from.byte_from.ensures at_if2.if-byte_from-ne-APPLICATION.false at_byte_from2.byte_from-f.ensures
+    at_Onward.onward-one.ensures.0 at_first_level.first_level.ensures at_second_level.second_level.ensures at_after_field.after_field-two.ensures.0
+    at_after_field2.after_field-three.ensures.0 at_if3.if-f-eq-NOT.false at_if4.if-f-ne-IF.false)
 
-put_term_same_length_4 : (t : ℕ) → put-term-lts.Need-same-length-4 (claims_put_term t) (put_term_at t) put-term.Post
+put_term_same_length_4 : (t : ℕ) → put-term-lts.Need-shape_of-out (claims_put_term t) (put_term_at t) put-term.Post
 put_term_same_length_4 t c = (put_term_returns_5 t c).as_long
 
 pub +put_term_spec : {M : Type 1} → statement M

@@ -10,4 +10,4 @@ first_level_spec =
     (tie.spec
     (λ c. search code depth 12)
     (λ c κs. search rules)
-    (λ c. rw (← c.level_of_law.ensures) (search code depth 12)))
+    (λ c. rw (← c.level_of.ensures) (search code depth 12)))

@@ -6,30 +6,30 @@ use Rattle.lib_base.proofs.Prelude.{ne_eqb, le-ltb, lt-ltb, eq-eqb, rules}
 use Rattle.source_terms.proofs.put_between.Statement.{statement}
 use Rattle.source_terms.proofs.put_between.Tie as tie
 
-returns : tie.Need-returns
+returns : tie.Need-returns-then-f-eq-IF
 returns c =
     let at_put_sign = c.before.before in
-    rw (eq-eqb _ if_fn at_put_sign.before.before.if1.true) at_put_sign.write-sign.ensures
+    rw (eq-eqb _ if_fn at_put_sign.before.before.if-f-eq-IF.true) at_put_sign.write_sign.ensures
 
-returns_2 : tie.Need-returns-2
+returns_2 : tie.Need-returns-then-f-eq0
 returns_2 c =
     let at_if1 = c.before in
     let f = at_if1.before.before.args.f in
-    rw (ne_eqb f if_fn at_if1.if1.false, eq-eqb f 0 c.if2.true) (wrote_none _ _ at_if1.before.before.requires)
+    rw (ne_eqb f if_fn at_if1.if-f-eq-IF.false, eq-eqb f 0 c.if-f-eq0.true) (wrote_none _ _ at_if1.before.before.requires)
 
-returns_3 : tie.Need-returns-3
+returns_3 : tie.Need-returns-then-f-gt-LAST
 returns_3 c =
     let at_if1 = c.before.before in
     let f = at_if1.before.before.args.f in
-    rw (ne_eqb f if_fn at_if1.if1.false, ne_eqb f 0 c.before.if2.false, lt-ltb last f c.if3.true) (wrote_none _ _ at_if1.before.before.requires)
+    rw (ne_eqb f if_fn at_if1.if-f-eq-IF.false, ne_eqb f 0 c.before.if-f-eq0.false, lt-ltb last f c.if-f-gt-LAST.true) (wrote_none _ _ at_if1.before.before.requires)
 
-returns_4 : tie.Need-returns-4
+returns_4 : tie.Need-returns
 returns_4 c =
     let at_put_function = c.before.before in
     let at_if3 = at_put_function.before.before in
     let at_if1 = at_if3.before.before in
     let f = at_if1.before.before.args.f in
-    rw (ne_eqb f if_fn at_if1.if1.false, ne_eqb f 0 at_if3.before.if2.false, le-ltb last f at_if3.if3.false) at_put_function.write-function.ensures
+    rw (ne_eqb f if_fn at_if1.if-f-eq-IF.false, ne_eqb f 0 at_if3.before.if-f-eq0.false, le-ltb last f at_if3.if-f-gt-LAST.false) at_put_function.write_function.ensures
 
 pub put_between_spec : {M : Type 1} → statement M
 put_between_spec =

@@ -4,13 +4,13 @@ use Rattle.lib_base.proofs.Prelude.{ne_eqb, eq-eqb, rules}
 use Rattle.source_terms.proofs.put_cell.Statement.{statement}
 use Rattle.source_terms.proofs.put_cell.Tie as tie
 
-returns : tie.Need-returns
+returns : tie.Need-returns-then-h-i
 returns c =
     let at_put_name = c.before.before.before in
     let args = at_put_name.before.before.before.args in
-    rw (eq-eqb args.h args.i c.if1.true) at_put_name.write-name.ensures
+    rw (eq-eqb args.h args.i c.if-h-i.true) at_put_name.write_name-named.ensures
 
-returns_2 : tie.Need-returns-2
+returns_2 : tie.Need-returns
 returns_2 c =
     let at_put_sign2 = c.before.before in
     let at_put_number = at_put_sign2.before.before.before.before in
@@ -18,9 +18,9 @@ returns_2 c =
     let at_if1 = at_put_sign.before.before in
     let at_put_name = at_if1.before.before.before in
     let args = at_put_name.before.before.before.args in
-    rw (ne_eqb args.h args.i at_if1.if1.false)
-    (wrote_on at_put_name.write-name.ensures (wrote_on at_put_sign.write-sign.ensures
-    (wrote_on at_put_number.write-number.ensures at_put_sign2.write-sign2.ensures)))
+    rw (ne_eqb args.h args.i at_if1.if-h-i.false)
+    (wrote_on at_put_name.write_name-named.ensures (wrote_on at_put_sign.write_sign-opened.ensures
+    (wrote_on at_put_number.write_number-counted.ensures at_put_sign2.write_sign.ensures)))
 
 pub put_cell_spec : {M : Type 1} → statement M
 put_cell_spec =

@@ -11,6 +11,6 @@ second_level_spec =
     (tie.spec
     (λ c. search code depth 12)
     (λ c κs. search rules)
-    (λ c. let at_if1 = c.before.before in rw (ne_eqb _ if_fn at_if1.if1.false, ← c.before.level_of_law.ensures) (omega arith))
+    (λ c. let at_if1 = c.before.before in rw (ne_eqb _ if_fn at_if1.if-f-eq-IF.false, ← c.before.level_of-n.ensures) (omega arith))
     (λ c. search rules)
-    (λ c. rw (← c.before.level_of_law.ensures) (search code depth 12)))
+    (λ c. rw (← c.before.level_of-n.ensures) (search code depth 12)))

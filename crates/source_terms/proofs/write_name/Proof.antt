@@ -8,7 +8,7 @@ pub write_name_spec : {M : Type 1} → statement M
 write_name_spec =
     tie.close
     (tie.spec
-    (λ c. wrote_over _ _ _ c.before.before.requires.0 c.if1.true)
+    (λ c. wrote_over _ _ _ c.before.before.requires.0 c.if-n-gt-TEXT_BYTES.true)
     (λ c κs. search rules)
     (λ c. search rules)
-    (λ c. let at_call = c.before.before in wrote_one at_call.put-name.ensures.0 at_call.before.before.if1.false at_call.put-name.ensures.1))
+    (λ c. let at_call = c.before.before in wrote_one at_call.put_name.ensures.0 at_call.before.before.if-n-gt-TEXT_BYTES.false at_call.put_name.ensures.1))

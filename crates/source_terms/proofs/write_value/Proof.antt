@@ -14,7 +14,7 @@ write_value_spec =
     let at_put_number = c.before.before in
     let at_if1 = at_put_number.before.before in
     let w = at_if1.before.before.args.w in
-    rw (lt-ltb w 2147483648 at_if1.if1.true) at_put_number.write-number.ensures)
+    rw (lt-ltb w 2147483648 at_if1.if-w-lt-NEGATIVE.true) at_put_number.write_number.ensures)
     (λ c κs. search rules)
     (λ c. search rules)
     (λ c κs. search rules)
@@ -24,4 +24,4 @@ write_value_spec =
     let at_put_function = at_put_number2.before.before.before.before in
     let at_if1 = at_put_function.before.before in
     let w = at_if1.before.before.args.w in
-    rw (le-ltb w 2147483648 at_if1.if1.false) (wrote_on at_put_function.write-function.ensures at_put_number2.write-number2.ensures)))
+    rw (le-ltb w 2147483648 at_if1.if-w-lt-NEGATIVE.false) (wrote_on at_put_function.write_function-after.ensures at_put_number2.write_number-2.ensures)))
