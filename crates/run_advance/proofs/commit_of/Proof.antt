@@ -12,6 +12,6 @@ commit_of_spec =
     tie.close
     (tie.spec
     (λ c κs. search rules)
-    (λ c. rw c.before.said_of.ensures (search code depth 12))
-    (λ c. omega (arith, c.before.said_of.ensures))
-    (λ c. rw c.before.said_of.ensures (search code depth 12)))
+    (λ c. rw c.before.said_of-said.ensures (search code depth 12))
+    (λ c. omega (arith, c.before.said_of-said.ensures))
+    (λ c. rw c.before.said_of-said.ensures (search code depth 12)))
