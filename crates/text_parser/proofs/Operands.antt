@@ -1,7 +1,7 @@
 -- Arguments, brackets, `if`, `!` and the primaries: each function's answer is that of the definition's, case by case.
-use Rattle.lib_base.proofs.Prelude.{ℕ, ◌≤◌, ◌<◌, ◌+◌, ◌-◌, suc, zero, ◌*◌, ◌%◌, ◌/◌, ◌≡◌, refl, ◌∙◌, sym, ap, List, []}
+use Rattle.lib_base.proofs.Prelude.{ℕ, ◌≤◌, ◌<◌, ◌+◌, ◌-◌, suc, zero, ◌*◌, ◌%◌, ◌/◌, ◌≡◌, refl, ◌∙◌, sym, ap, subst, List, []}
 use Rattle.lib_base.proofs.Prelude.{◌∷◌, ◌++◌, map, append_assoc, length, get_or, take, drop, length-append, eqb, ltb}
-use Rattle.lib_base.proofs.Prelude.{add-one, sub-one, ne_eqb, eqb-true, eq-eqb, ltb-false, ltb-true, arith}
+use Rattle.lib_base.proofs.Prelude.{add-one, ne_eqb, eqb-true, eq-eqb, ltb-false, ltb-true, arith}
 use Rattle.lib_signature.specs.Numbers.{not_fn, if_fn}
 use Rattle.spec_language.specs.Sheet.{as_sent}
 use Rattle.lib_base.specs.Basics.{pick, All}
@@ -230,7 +230,10 @@ taken : (ts : List Token) (at : ℕ) (k : ℕ) (t : Token) → 0 < k → drop at
     → read_at 0 k (drop at ts) ≡ operand_of (read_at 0 (k - 1)) (read_at 6 (k - 1)) (t ∷ drop (at + 1) ts)
 unfolding tower operand_at
 taken ts at zero t h e = absurd (omega arith)
-taken ts at (suc k) t h e = rw (sub-one, e)
+taken ts at (suc k) t h e =
+    let q : k ≡ suc k - 1 = omega arith in
+    subst (λ l. read_at 0 (suc k) l ≡ operand_of (read_at 0 (suc k - 1)) (read_at 6 (suc k - 1)) (t ∷ drop (at + 1) ts)) (sym e)
+    (subst (λ m. read_at 0 (suc k) (t ∷ drop (at + 1) ts) ≡ operand_of (read_at 0 m) (read_at 6 m) (t ∷ drop (at + 1) ts)) q refl)
 
 is_function : (t : Token) (f : ℕ) → InRange t → f < 256 → token_code t ≡ 77309411328 + f → t ≡ function f
 is_function (number n) f h g e = absurd (omega (arith, capped_most n))

@@ -196,10 +196,10 @@ argument_enum_told t c = search rules
 
 argument_returns : (t : ℕ) → argument-lts.Need-returns-in_default (claims_argument t) (argument_at t) argument.Post
 argument_returns t c =
-    (
-      argument_fault c.args.m c.args.ts.now c.args.out.now
-          c.args.out.now c.args.r c.in_default.is,
-      c.requires.1.1.1.1,
+    let at_entry_lem = c in (
+      argument_fault at_entry_lem.args.m at_entry_lem.args.ts.now at_entry_lem.args.out.now
+          at_entry_lem.args.out.now at_entry_lem.args.r c.in_default.is,
+      at_entry_lem.requires.1.1.1.1,
     )
 
 argument_mark_at_requires : (t : ℕ) → argument-lts.Need-mark_at-requires (claims_argument t) (argument_at t)
@@ -208,39 +208,48 @@ argument_mark_at_requires t c κs = search rules
 
 argument_returns_2 : (t : ℕ) → argument-lts.Need-returns-then-mark_at-m (claims_argument t) (argument_at t) argument.Post
 argument_returns_2 t c =
-    (
-      argument_missing c.args.m c.args.ts.now c.args.out.now
-          c.args.out.now c.args.r _ _ _ c.in-Done.is c.requires.1.1.0
+    let at_r = c in
+    let at_entry_lem = at_r in (
+      argument_missing at_entry_lem.args.m at_entry_lem.args.ts.now at_entry_lem.args.out.now
+          at_entry_lem.args.out.now at_entry_lem.args.r _ _ _ at_r.in-Done.is at_entry_lem.requires.1.1.0
           (λ e. c.if-mark_at-m.true (c.mark_at.ensures.0 ∙ e)),
-      c.requires.1.1.1.1,
+      at_entry_lem.requires.1.1.1.1,
     )
 
 argument_add_disjunction : (t : ℕ) → argument-lts.Need-overflow_add-at (claims_argument t) (argument_at t)
     argument.Post
 argument_add_disjunction t c =
-    let h = c.mark_at.ensures.1 (omega (arith, c.if-mark_at-m.false, c.requires.1.1.0)) in
+    let at_entry_lem = c in
+    let h = c.mark_at.ensures.1 (omega (arith, c.if-mark_at-m.false, at_entry_lem.requires.1.1.0)) in
     omega arith
 
 argument_disjunction_requires : (t : ℕ) → argument-lts.Need-disjunction-q-requires (claims_argument t) (argument_at t)
     argument.Post
 argument_disjunction_requires t c κs =
-    let h = c.mark_at.ensures.1 (omega (arith, c.if-mark_at-m.false, c.requires.1.1.0)) in
-    let e = rw c.in-Done.is at c.requires.0 in
-    let i = rw c.in-Done.is at c.requires.1.0 in
-    (omega arith, (omega arith, c.requires.1.1.1))
+    let at_mark_at = c in
+    let at_r = at_mark_at in
+    let at_entry_lem = at_r in
+    let h = at_mark_at.mark_at.ensures.1 (omega (arith, c.if-mark_at-m.false, at_entry_lem.requires.1.1.0)) in
+    let e = rw at_r.in-Done.is at at_entry_lem.requires.0 in
+    let i = rw at_r.in-Done.is at at_entry_lem.requires.1.0 in
+    (omega arith, (omega arith, at_entry_lem.requires.1.1.1))
 
 argument_under_requires : (t : ℕ) → argument-lts.Need-under-requires (claims_argument t) (argument_at t) argument.Post
 argument_under_requires t c κs = search rules
 
-argument_returns_3 : (t : ℕ) → argument-lts.Need-returns-in_default (claims_argument t) (argument_at t) argument.Post
+argument_returns_3 : (t : ℕ) → argument-lts.Need-returns (claims_argument t) (argument_at t) argument.Post
 argument_returns_3 t c =
-    (
-      argument_read c.args.m c.args.ts.now c.args.out.now
-          c.disjunction-q.new.1.1.0 c.args.r _ _ _ c.disjunction-q.result
-          c.under.result c.in-Done.is c.requires.1.1.0
-          (sym c.mark_at.ensures.0 ∙ c.if-mark_at-m.false) c.disjunction-q.ensures.0
-          c.disjunction-q.ensures.1.0 c.under.ensures,
-      c.disjunction-q.ensures.1.1,
+    let at_disjunction = c in
+    let at_if1 = at_disjunction in
+    let at_mark_at = at_if1 in
+    let at_r = at_mark_at in
+    let at_entry_lem = at_r in (
+      argument_read at_entry_lem.args.m at_entry_lem.args.ts.now at_entry_lem.args.out.now
+          at_disjunction.disjunction-q.new.out at_entry_lem.args.r _ _ _ at_disjunction.disjunction-q.result
+          c.under.result at_r.in-Done.is at_entry_lem.requires.1.1.0
+          (sym at_mark_at.mark_at.ensures.0 ∙ at_if1.if-mark_at-m.false) at_disjunction.disjunction-q.ensures.0
+          at_disjunction.disjunction-q.ensures.1.0 c.under.ensures,
+      at_disjunction.disjunction-q.ensures.1.1,
     )
 
 -- ---- `if`
@@ -254,42 +263,47 @@ choice_argument_requires t c κs =
 
 choice_argument_requires_2 : (t : ℕ) → choice-lts.Need-argument-r-requires-2 (claims_choice t) (choice_at t) choice.Post
 choice_argument_requires_2 t c κs =
-    let l = argued_left 1 c.args.ts.now c.args.out.now
-    c.argument-r.new.1.1.1.0 (Done (c.args.at + 1) c.args.n 0)
-    c.argument-r.result c.argument-r.ensures.0 in
-    let i = argued_in 1 c.args.ts.now c.args.out.now
-    c.argument-r.new.1.1.1.0 (Done (c.args.at + 1) c.args.n 0)
-    c.argument-r.result (omega arith) c.argument-r.ensures.0 in (
-      omega (arith, c.requires.0),
+    let at_argument = c in
+    let at_entry_lem = at_argument in
+    let l = argued_left 1 at_entry_lem.args.ts.now at_entry_lem.args.out.now
+    at_argument.argument-r.new.out (Done (at_entry_lem.args.at + 1) at_entry_lem.args.n 0)
+    at_argument.argument-r.result at_argument.argument-r.ensures.0 in
+    let i = argued_in 1 at_entry_lem.args.ts.now at_entry_lem.args.out.now
+    at_argument.argument-r.new.out (Done (at_entry_lem.args.at + 1) at_entry_lem.args.n 0)
+    at_argument.argument-r.result (omega arith) at_argument.argument-r.ensures.0 in (
+      omega (arith, at_entry_lem.requires.0),
       (
         i,
         (
           omega arith,
-          (c.requires.1.1.1.0, c.argument-r.ensures.1),
+          (at_entry_lem.requires.1.1.1.0, at_argument.argument-r.ensures.1),
         ),
       ),
     )
 
 choice_argument_requires_3 : (t : ℕ) → choice-lts.Need-argument-r-requires-3 (claims_choice t) (choice_at t) choice.Post
 choice_argument_requires_3 t c κs =
-    let l = argued_left 1 c.args.ts.now c.args.out.now
-    c.argument-r.new.1.1.1.0 (Done (c.args.at + 1) c.args.n 0)
-    c.argument-r.result c.argument-r.ensures.0 in
-    let i = argued_in 1 c.args.ts.now c.args.out.now
-    c.argument-r.new.1.1.1.0 (Done (c.args.at + 1) c.args.n 0)
-    c.argument-r.result (omega arith) c.argument-r.ensures.0 in
-    let k = argued_left 3 c.args.ts.now c.argument-r.new.1.1.1.0
-    c.argument-r-2.new.1.1.1.0 c.argument-r.result c.argument-r-2.result
-    c.argument-r-2.ensures.0 in
-    let j = argued_in 3 c.args.ts.now c.argument-r.new.1.1.1.0
-    c.argument-r-2.new.1.1.1.0 c.argument-r.result c.argument-r-2.result i
-    c.argument-r-2.ensures.0 in (
-      omega (arith, c.requires.0),
+    let at_argument2 = c in
+    let at_argument = at_argument2 in
+    let at_entry_lem = at_argument in
+    let l = argued_left 1 at_entry_lem.args.ts.now at_entry_lem.args.out.now
+    at_argument.argument-r.new.out (Done (at_entry_lem.args.at + 1) at_entry_lem.args.n 0)
+    at_argument.argument-r.result at_argument.argument-r.ensures.0 in
+    let i = argued_in 1 at_entry_lem.args.ts.now at_entry_lem.args.out.now
+    at_argument.argument-r.new.out (Done (at_entry_lem.args.at + 1) at_entry_lem.args.n 0)
+    at_argument.argument-r.result (omega arith) at_argument.argument-r.ensures.0 in
+    let k = argued_left 3 at_entry_lem.args.ts.now at_argument.argument-r.new.out
+    at_argument2.argument-r-2.new.out at_argument.argument-r.result at_argument2.argument-r-2.result
+    at_argument2.argument-r-2.ensures.0 in
+    let j = argued_in 3 at_entry_lem.args.ts.now at_argument.argument-r.new.out
+    at_argument2.argument-r-2.new.out at_argument.argument-r.result at_argument2.argument-r-2.result i
+    at_argument2.argument-r-2.ensures.0 in (
+      omega (arith, at_entry_lem.requires.0),
       (
         j,
         (
           omega arith,
-          (c.requires.1.1.1.0, c.argument-r-2.ensures.1),
+          (at_entry_lem.requires.1.1.1.0, at_argument2.argument-r-2.ensures.1),
         ),
       ),
     )
@@ -297,38 +311,48 @@ choice_argument_requires_3 t c κs =
 choice_ended_requires : (t : ℕ) → choice-lts.Need-ended-r-requires (claims_choice t) (choice_at t) choice.Post
 choice_ended_requires t c κs = search rules
 
-choice_close_requires : (t : ℕ) → choice-lts.Need-close-r-requires (claims_choice t) (choice_at t) choice.Post
+choice_close_requires : (t : ℕ) → choice-lts.Need-close-requires (claims_choice t) (choice_at t) choice.Post
 choice_close_requires t c κs =
-    let long = c.argument-r-3.ensures.1 in (
-      choice_closable c.args.ts.now c.args.at c.args.n c.args.out.now
-          c.argument-r.new.1.1.1.0 c.argument-r-2.new.1.1.1.0
-          c.argument-r-3.new.1.1.1.0 c.argument-r.result c.argument-r-2.result
-          c.argument-r-3.result c.argument-r.ensures.0 c.argument-r-2.ensures.0
-          c.argument-r-3.ensures.0 c.requires.1.0 c.requires.1.1.1.0
-          c.ended-r.result c.ended-r.ensures long,
+    let at_ended = c in
+    let at_argument3 = at_ended in
+    let at_argument2 = at_argument3 in
+    let at_argument = at_argument2 in
+    let at_entry_lem = at_argument in
+    let long = at_argument3.argument-r-3.ensures.1 in (
+      choice_closable at_entry_lem.args.ts.now at_entry_lem.args.at at_entry_lem.args.n at_entry_lem.args.out.now
+          at_argument.argument-r.new.out at_argument2.argument-r-2.new.out
+          at_argument3.argument-r-3.new.out at_argument.argument-r.result at_argument2.argument-r-2.result
+          at_argument3.argument-r-3.result at_argument.argument-r.ensures.0 at_argument2.argument-r-2.ensures.0
+          at_argument3.argument-r-3.ensures.0 at_entry_lem.requires.1.0 at_entry_lem.requires.1.1.1.0
+          at_ended.ended-r.result at_ended.ended-r.ensures long,
       omega arith,
     )
 
-choice_returns : (t : ℕ) → choice-lts.Need-returns-in_default (claims_choice t) (choice_at t) choice.Post
+choice_returns : (t : ℕ) → choice-lts.Need-returns (claims_choice t) (choice_at t) choice.Post
 choice_returns t c =
-    let long = c.argument-r-3.ensures.1 in
-    with_length (chosen c.args.ts.now c.args.at c.args.n c.args.out.now
-    c.argument-r.new.1.1.1.0 c.argument-r-2.new.1.1.1.0
-    c.argument-r-3.new.1.1.1.0 c.argument-r.result c.argument-r-2.result
-    c.argument-r-3.result c.argument-r.ensures.0 c.argument-r-2.ensures.0
-    c.argument-r-3.ensures.0 c.requires.1.0 c.requires.1.1.1.0
-    c.ended-r.result c.close-r.result c.close-r.new.1.1.1.1.0 c.ended-r.ensures
-    c.close-r.ensures.0 c.close-r.ensures.1 c.requires.1.1.0 c.requires.1.1.1.1 long)
-    (c.close-r.auto.1.1.1.1.0 ∙ long)
+    let at_ended = c in
+    let at_argument3 = at_ended in
+    let at_argument2 = at_argument3 in
+    let at_argument = at_argument2 in
+    let at_entry_lem = at_argument in
+    let long = at_argument3.argument-r-3.ensures.1 in
+    with_length (chosen at_entry_lem.args.ts.now at_entry_lem.args.at at_entry_lem.args.n at_entry_lem.args.out.now
+    at_argument.argument-r.new.out at_argument2.argument-r-2.new.out
+    at_argument3.argument-r-3.new.out at_argument.argument-r.result at_argument2.argument-r-2.result
+    at_argument3.argument-r-3.result at_argument.argument-r.ensures.0 at_argument2.argument-r-2.ensures.0
+    at_argument3.argument-r-3.ensures.0 at_entry_lem.requires.1.0 at_entry_lem.requires.1.1.1.0
+    at_ended.ended-r.result c.close.result c.close.new.out at_ended.ended-r.ensures
+    c.close.ensures.0 c.close.ensures.1 at_entry_lem.requires.1.1.0 at_entry_lem.requires.1.1.1.1 long)
+    (c.close.auto.out ∙ long)
 
 -- ---- `!` and the primaries
 
-operand_returns : (t : ℕ) → operand-lts.Need-returns-in_default (claims_operand t) (operand_at t) operand.Post
+operand_returns : (t : ℕ) → operand-lts.Need-returns-then-ts-at (claims_operand t) (operand_at t) operand.Post
 operand_returns t c =
-    (
-      operand_none c.args.ts.now c.args.at c.args.n c.args.out.now
-          c.args.out.now c.if-mark_at-m.true,
-      (tt, c.requires.1.1.1),
+    let at_entry_lem = c in (
+      operand_none at_entry_lem.args.ts.now at_entry_lem.args.at at_entry_lem.args.n at_entry_lem.args.out.now
+          at_entry_lem.args.out.now c.if-ts-at.true,
+      (tt, at_entry_lem.requires.1.1.1),
     )
 
 operand_mul_t : (t : ℕ) → operand-lts.Need-offset_bounds-ts-at (claims_operand t) (operand_at t) operand.Post
@@ -343,66 +367,86 @@ operand_add_operand t c = omega arith
 
 operand_operand_requires : (t : ℕ) → operand-lts.Need-operand-r-requires (claims_operand t) (operand_at t) operand.Post
 operand_operand_requires t c κs =
-    (omega (arith, c.requires.0), (omega arith, (omega arith, omega arith)))
+    let at_entry_lem = c in
+    (omega (arith, at_entry_lem.requires.0), (omega arith, (omega arith, omega arith)))
 
-operand_close_requires : (t : ℕ) → operand-lts.Need-close-r-requires (claims_operand t) (operand_at t) operand.Post
+operand_close_requires : (t : ℕ) → operand-lts.Need-close-requires (claims_operand t) (operand_at t) operand.Post
 operand_close_requires t c κs =
-    let long = c.operand-r.ensures.1.1 in (
-      one_closable c.args.ts.now c.args.at c.args.n
-          c.operand-r.new.1.1.0 c.operand-r.result c.operand-r.ensures.1.0
-          c.requires.1.0 c.requires.1.1.0 long,
+    let at_operand = c in
+    let at_entry_lem = at_operand in
+    let long = at_operand.operand-r.ensures.1.1 in (
+      one_closable at_entry_lem.args.ts.now at_entry_lem.args.at at_entry_lem.args.n
+          at_operand.operand-r.new.out at_operand.operand-r.result at_operand.operand-r.ensures.1.0
+          at_entry_lem.requires.1.0 at_entry_lem.requires.1.1.0 long,
       omega arith,
     )
 
-operand_returns_2 : (t : ℕ) → operand-lts.Need-returns-then-mark_at-m (claims_operand t) (operand_at t) operand.Post
+operand_returns_2 : (t : ℕ) → operand-lts.Need-returns-then-t-eq-NOT (claims_operand t) (operand_at t) operand.Post
 operand_returns_2 t c =
-    let long = c.operand-r.ensures.1.1 in
-    with_length (operand_not c.args.ts.now c.args.at c.args.n
-    c.args.out.now c.if-mark_at-m.false c.requires.1.0 c.requires.1.1.0
-    c.requires.1.1.1 c.if-t-eq-NOT.true c.operand-r.new.1.1.0
-    c.operand-r.result c.close-r.result c.close-r.new.1.1.1.1.0
-    c.operand-r.ensures.0 c.operand-r.ensures.1.0 long c.close-r.ensures.0
-    c.close-r.ensures.1) (c.close-r.auto.1.1.1.1.0 ∙ long)
+    let at_operand = c in
+    let at_if2 = at_operand in
+    let at_if1 = at_if2 in
+    let at_entry_lem = at_if1 in
+    let long = at_operand.operand-r.ensures.1.1 in
+    with_length (operand_not at_entry_lem.args.ts.now at_entry_lem.args.at at_entry_lem.args.n
+    at_entry_lem.args.out.now at_if1.if-ts-at.false at_entry_lem.requires.1.0 at_entry_lem.requires.1.1.0
+    at_entry_lem.requires.1.1.1 at_if2.if-t-eq-NOT.true at_operand.operand-r.new.out
+    at_operand.operand-r.result c.close.result c.close.new.out
+    at_operand.operand-r.ensures.0 at_operand.operand-r.ensures.1.0 long c.close.ensures.0
+    c.close.ensures.1) (c.close.auto.out ∙ long)
 
 operand_choice_requires : (t : ℕ) → operand-lts.Need-choice-requires (claims_operand t) (operand_at t) operand.Post
 operand_choice_requires t c κs =
-    (omega (arith, c.requires.0), (omega arith, (omega arith, (omega arith, omega arith))))
+    let at_entry_lem = c in
+    (omega (arith, at_entry_lem.requires.0), (omega arith, (omega arith, (omega arith, omega arith))))
 
-operand_returns_3 : (t : ℕ) → operand-lts.Need-returns-in_default (claims_operand t) (operand_at t) operand.Post
+operand_returns_3 : (t : ℕ) → operand-lts.Need-returns-then-t-eq-IF (claims_operand t) (operand_at t) operand.Post
 operand_returns_3 t c =
-    (
-      operand_if c.args.ts.now c.args.at c.args.n c.args.out.now
-          c.if-mark_at-m.false c.requires.1.0 c.requires.1.1.0 c.requires.1.1.1
-          c.if-t-eq-IF.true c.choice.new.1.1.0 c.choice.result c.choice.ensures.0,
+    let at_if3 = c in
+    let at_if1 = at_if3 in
+    let at_entry_lem = at_if1 in (
+      operand_if at_entry_lem.args.ts.now at_entry_lem.args.at at_entry_lem.args.n at_entry_lem.args.out.now
+          at_if1.if-ts-at.false at_entry_lem.requires.1.0 at_entry_lem.requires.1.1.0 at_entry_lem.requires.1.1.1
+          at_if3.if-t-eq-IF.true c.choice.new.out c.choice.result c.choice.ensures.0,
       c.choice.ensures.1,
     )
 
 operand_argument_requires : (t : ℕ) → operand-lts.Need-argument-r-requires (claims_operand t) (operand_at t)
     operand.Post
 operand_argument_requires t c κs =
-    (omega (arith, c.requires.0), (omega arith, (omega arith, (omega arith, omega arith))))
+    let at_entry_lem = c in
+    (omega (arith, at_entry_lem.requires.0), (omega arith, (omega arith, (omega arith, omega arith))))
 
-operand_ended_requires : (t : ℕ) → operand-lts.Need-ended-r-requires (claims_operand t) (operand_at t) operand.Post
+operand_ended_requires : (t : ℕ) → operand-lts.Need-ended-requires (claims_operand t) (operand_at t) operand.Post
 operand_ended_requires t c κs = search rules
 
 operand_returns_4 : (t : ℕ) → operand-lts.Need-returns-then-t-eq-OPENING (claims_operand t) (operand_at t) operand.Post
 operand_returns_4 t c =
-    with_length (operand_brackets c.args.ts.now c.args.at c.args.n
-    c.args.out.now c.if-mark_at-m.false c.requires.1.0 c.requires.1.1.0
-    c.requires.1.1.1 c.if-t-eq-OPENING.true c.argument-r.new.1.1.1.0
-    c.argument-r.result c.ended-r.result c.argument-r.ensures.0 c.ended-r.ensures)
-    c.argument-r.ensures.1
+    let at_argument = c in
+    let at_if4 = at_argument in
+    let at_if1 = at_if4 in
+    let at_entry_lem = at_if1 in
+    with_length (operand_brackets at_entry_lem.args.ts.now at_entry_lem.args.at at_entry_lem.args.n
+    at_entry_lem.args.out.now at_if1.if-ts-at.false at_entry_lem.requires.1.0 at_entry_lem.requires.1.1.0
+    at_entry_lem.requires.1.1.1 at_if4.if-t-eq-OPENING.true at_argument.argument-r.new.out
+    at_argument.argument-r.result c.ended.result at_argument.argument-r.ensures.0 c.ended.ensures)
+    at_argument.argument-r.ensures.1
 
 operand_leaf_requires : (t : ℕ) → operand-lts.Need-leaf-requires (claims_operand t) (operand_at t) operand.Post
 operand_leaf_requires t c κs = (omega arith, omega arith)
 
-operand_returns_5 : (t : ℕ) → operand-lts.Need-returns-in_default (claims_operand t) (operand_at t) operand.Post
+operand_returns_5 : (t : ℕ) → operand-lts.Need-returns (claims_operand t) (operand_at t) operand.Post
 operand_returns_5 t c =
-    with_length (operand_leaf c.args.ts.now c.args.at c.args.n
-    c.args.out.now c.if-mark_at-m.false c.requires.1.0 c.requires.1.1.0
-    c.requires.1.1.1 c.if-t-eq-NOT.false c.if-t-eq-IF.false c.if-t-eq-OPENING.false c.leaf.result
-    c.leaf.new.1.1.0 c.leaf.ensures.0 c.leaf.ensures.1)
-    (c.leaf.auto.1.1.0 ∙ c.requires.1.1.1)
+    let at_if4 = c in
+    let at_if3 = at_if4 in
+    let at_if2 = at_if3 in
+    let at_if1 = at_if2 in
+    let at_entry_lem = at_if1 in
+    with_length (operand_leaf at_entry_lem.args.ts.now at_entry_lem.args.at at_entry_lem.args.n
+    at_entry_lem.args.out.now at_if1.if-ts-at.false at_entry_lem.requires.1.0 at_entry_lem.requires.1.1.0
+    at_entry_lem.requires.1.1.1 at_if2.if-t-eq-NOT.false at_if3.if-t-eq-IF.false at_if4.if-t-eq-OPENING.false c.leaf.result
+    c.leaf.new.out c.leaf.ensures.0 c.leaf.ensures.1)
+    (c.leaf.auto.out ∙ at_entry_lem.requires.1.1.1)
 
 -- ---- the level of products
 
@@ -426,45 +470,61 @@ product_enum_told t c = search rules
 product_returns : (t : ℕ) → product-lts.Need-returns-in_default (claims_product t) (product_at t) product.Post product_Inv_loop
     product_μ_loop
 product_returns t c =
-    level_fault (so_far c.args.out.now c.loop-r.invariant c.operand-r.ensures.0
-    c.operand-r.ensures.1 c.requires.1) c.in_default.is
+    let at_loop = c in
+    let at_operand = at_loop in
+    let at_entry_lem = at_operand in
+    level_fault (so_far at_entry_lem.args.out.now at_loop.loop-r.invariant at_operand.operand-r.ensures.0
+    at_operand.operand-r.ensures.1 at_entry_lem.requires.1) c.in_default.is
 
 product_level_at_requires : (t : ℕ) → product-lts.Need-level_at-requires (claims_product t) (product_at t)
     product.Post product_Inv_loop product_μ_loop
 product_level_at_requires t c κs = search rules
 
-product_returns_2 : (t : ℕ) → product-lts.Need-returns-then-mark_at-m (claims_product t) (product_at t) product.Post
+product_returns_2 : (t : ℕ) → product-lts.Need-returns-then-level_at-ne-PRODUCT (claims_product t) (product_at t) product.Post
     product_Inv_loop product_μ_loop
 product_returns_2 t c =
-    level_end _ _ _ (so_far c.args.out.now c.loop-r.invariant c.operand-r.ensures.0
-    c.operand-r.ensures.1 c.requires.1) c.in-Done.is
-    (λ e. c.if-mark_at-m.true (c.level_at.ensures.0 ∙ e))
+    let at_r = c in
+    let at_loop = at_r in
+    let at_operand = at_loop in
+    let at_entry_lem = at_operand in
+    level_end _ _ _ (so_far at_entry_lem.args.out.now at_loop.loop-r.invariant at_operand.operand-r.ensures.0
+    at_operand.operand-r.ensures.1 at_entry_lem.requires.1) at_r.in-Done.is
+    (λ e. c.if-level_at-ne-PRODUCT.true (c.level_at.ensures.0 ∙ e))
 
-product_add_operand : (t : ℕ) → product-lts.Need-overflow_add-at (claims_product t) (product_at t) product.Post
+product_add_operand : (t : ℕ) → product-lts.Need-overflow_add-f (claims_product t) (product_at t) product.Post
     product_Inv_loop product_μ_loop
 product_add_operand t c =
-    let h = c.level_at.ensures.1 (omega (arith, c.if-mark_at-m.false)) in
+    let h = c.level_at.ensures.1 (omega (arith, c.if-level_at-ne-PRODUCT.false)) in
     omega arith
 
 product_operand_requires_2 : (t : ℕ) → product-lts.Need-operand-r-requires-in-loop-r (claims_product t) (product_at t)
     product.Post product_Inv_loop product_μ_loop
 product_operand_requires_2 t c κs =
-    let h = c.level_at.ensures.1 (omega (arith, c.if-mark_at-m.false)) in
-    let u = so_far c.args.out.now c.loop-r.invariant c.operand-r.ensures.0
-    c.operand-r.ensures.1 c.requires.1 in
-    let w = level_ahead _ _ _ u c.in-Done.is in
-    (omega (arith, c.requires.0), (next_room _ _ _ u c.in-Done.is, (u.few, u.kept)))
+    let at_level_at = c in
+    let at_r = at_level_at in
+    let at_loop = at_r in
+    let at_operand = at_loop in
+    let at_entry_lem = at_operand in
+    let h = at_level_at.level_at.ensures.1 (omega (arith, c.if-level_at-ne-PRODUCT.false)) in
+    let u = so_far at_entry_lem.args.out.now at_loop.loop-r.invariant at_operand.operand-r.ensures.0
+    at_operand.operand-r.ensures.1 at_entry_lem.requires.1 in
+    let w = level_ahead _ _ _ u at_r.in-Done.is in
+    (omega (arith, at_entry_lem.requires.0), (next_room _ _ _ u at_r.in-Done.is, (u.few, u.kept)))
 
 product_mul_close : (t : ℕ) → product-lts.Need-offset_bounds-ts-f (claims_product t) (product_at t) product.Post
     product_Inv_loop product_μ_loop
 product_mul_close t c =
-    let h = c.level_at.ensures.1 (omega (arith, c.if-mark_at-m.false)) in
-    omega (arith, c.requires.1.1.0)
+    let at_if1 = c in
+    let at_level_at = at_if1 in
+    let at_entry_lem = at_level_at in
+    let h = at_level_at.level_at.ensures.1 (omega (arith, at_if1.if-level_at-ne-PRODUCT.false)) in
+    omega (arith, at_entry_lem.requires.1.1.0)
 
 product_shared_slice_read_close : (t : ℕ) → product-lts.Need-bounds-ts-f (claims_product t)
     (product_at t) product.Post product_Inv_loop product_μ_loop
 product_shared_slice_read_close t c =
-    c.level_at.ensures.1 (omega (arith, c.if-mark_at-m.false))
+    let at_if1 = c in
+    at_if1.level_at.ensures.1 (omega (arith, at_if1.if-level_at-ne-PRODUCT.false))
 
 product_cast_close : (t : ℕ) → product-lts.Need-overflow_cast-ts (claims_product t) (product_at t) product.Post
     product_Inv_loop product_μ_loop
@@ -473,30 +533,44 @@ product_cast_close t c = omega arith
 product_close_requires : (t : ℕ) → product-lts.Need-close-r-requires (claims_product t) (product_at t) product.Post
     product_Inv_loop product_μ_loop
 product_close_requires t c κs =
-    let long = c.operand-r-in-loop-r.ensures.1.1 in (
-      level_closable _ _ _ (so_far c.args.out.now c.loop-r.invariant c.operand-r.ensures.0
-          c.operand-r.ensures.1 c.requires.1) c.in-Done.is c.operand-r-in-loop-r.result
-          c.operand-r-in-loop-r.new.1.1.0 long c.operand-r-in-loop-r.ensures.1.0,
+    let at_operand2 = c in
+    let at_r = at_operand2 in
+    let at_loop = at_r in
+    let at_operand = at_loop in
+    let at_entry_lem = at_operand in
+    let long = at_operand2.operand-r-in-loop-r.ensures.1.1 in (
+      level_closable _ _ _ (so_far at_entry_lem.args.out.now at_loop.loop-r.invariant at_operand.operand-r.ensures.0
+          at_operand.operand-r.ensures.1 at_entry_lem.requires.1) at_r.in-Done.is at_operand2.operand-r-in-loop-r.result
+          at_operand2.operand-r-in-loop-r.new.out long at_operand2.operand-r-in-loop-r.ensures.1.0,
       omega arith,
     )
 
 product_loop_less : (t : ℕ) → product-lts.Need-loop-r-smaller (claims_product t) (product_at t) product.Post
     product_Inv_loop product_μ_loop
 product_loop_less t c =
-    let h = c.level_at.ensures.1 (omega (arith, c.if-mark_at-m.false)) in
-    level_less (length c.args.ts.now) _ _ _ c.loop-r.r-1 c.operand-r-in-loop-r.result
-    c.close-r.result c.in-Done.is h c.operand-r-in-loop-r.ensures.1.0 c.close-r.ensures.0
+    let at_operand2 = c in
+    let at_if1 = at_operand2 in
+    let at_r = at_if1 in
+    let at_loop = at_r in
+    let at_entry_lem = at_loop in
+    let h = at_if1.level_at.ensures.1 (omega (arith, at_if1.if-level_at-ne-PRODUCT.false)) in
+    level_less (length at_entry_lem.args.ts.now) _ _ _ at_loop.loop-r.r at_operand2.operand-r-in-loop-r.result
+    c.close-r.result at_r.in-Done.is h at_operand2.operand-r-in-loop-r.ensures.1.0 c.close-r.ensures.0
 
 product_loop_again : (t : ℕ) → product-lts.Need-loop-r-preserved (claims_product t) (product_at t) product.Post
     product_Inv_loop product_μ_loop
 product_loop_again t c o u =
-    let h = c.level_at.ensures.1 (omega (arith, c.if-mark_at-m.false)) in
-    let long = c.operand-r-in-loop-r.ensures.1.1 in
-    level_turn _ _ _ (c.loop-r.invariant o u) c.in-Done.is c.operand-r-in-loop-r.result
-    c.operand-r-in-loop-r.new.1.1.0 (sym c.level_at.ensures.0 ∙ c.if-mark_at-m.false) h
-    c.operand-r-in-loop-r.ensures.0 c.operand-r-in-loop-r.ensures.1.0 long c.close-r.result
-    c.close-r.new.1.1.1.1.0 c.close-r.ensures.0 c.close-r.ensures.1
-    (c.close-r.auto.1.1.1.1.0 ∙ long)
+    let at_operand2 = c in
+    let at_if1 = at_operand2 in
+    let at_level_at = at_if1 in
+    let at_r = at_level_at in
+    let h = at_level_at.level_at.ensures.1 (omega (arith, at_if1.if-level_at-ne-PRODUCT.false)) in
+    let long = at_operand2.operand-r-in-loop-r.ensures.1.1 in
+    level_turn _ _ _ (at_r.loop-r.invariant o u) at_r.in-Done.is at_operand2.operand-r-in-loop-r.result
+    at_operand2.operand-r-in-loop-r.new.out (sym at_level_at.level_at.ensures.0 ∙ at_if1.if-level_at-ne-PRODUCT.false) h
+    at_operand2.operand-r-in-loop-r.ensures.0 at_operand2.operand-r-in-loop-r.ensures.1.0 long c.close-r.result
+    c.close-r.new.out c.close-r.ensures.0 c.close-r.ensures.1
+    (c.close-r.auto.out ∙ long)
 
 -- ---- the level of sums
 
@@ -515,70 +589,100 @@ sum_enum_told t c = search rules
 
 sum_returns : (t : ℕ) → sum-lts.Need-returns-in_default (claims_sum t) (sum_at t) sum.Post sum_Inv_loop sum_μ_loop
 sum_returns t c =
-    level_fault (so_far c.args.out.now c.loop-r.invariant c.product-r.ensures.0
-    c.product-r.ensures.1 c.requires.1) c.in_default.is
+    let at_loop = c in
+    let at_product = at_loop in
+    let at_entry_lem = at_product in
+    level_fault (so_far at_entry_lem.args.out.now at_loop.loop-r.invariant at_product.product-r.ensures.0
+    at_product.product-r.ensures.1 at_entry_lem.requires.1) c.in_default.is
 
 sum_level_at_requires : (t : ℕ) → sum-lts.Need-level_at-requires (claims_sum t) (sum_at t) sum.Post sum_Inv_loop
     sum_μ_loop
 sum_level_at_requires t c κs = search rules
 
-sum_returns_2 : (t : ℕ) → sum-lts.Need-returns-then-mark_at-m (claims_sum t) (sum_at t) sum.Post sum_Inv_loop sum_μ_loop
+sum_returns_2 : (t : ℕ) → sum-lts.Need-returns-then-level_at-ne-SUM (claims_sum t) (sum_at t) sum.Post sum_Inv_loop sum_μ_loop
 sum_returns_2 t c =
-    level_end _ _ _ (so_far c.args.out.now c.loop-r.invariant c.product-r.ensures.0
-    c.product-r.ensures.1 c.requires.1) c.in-Done.is
-    (λ e. c.if-mark_at-m.true (c.level_at.ensures.0 ∙ e))
+    let at_r = c in
+    let at_loop = at_r in
+    let at_product = at_loop in
+    let at_entry_lem = at_product in
+    level_end _ _ _ (so_far at_entry_lem.args.out.now at_loop.loop-r.invariant at_product.product-r.ensures.0
+    at_product.product-r.ensures.1 at_entry_lem.requires.1) at_r.in-Done.is
+    (λ e. c.if-level_at-ne-SUM.true (c.level_at.ensures.0 ∙ e))
 
 sum_add_product : (t : ℕ) → sum-lts.Need-overflow_add-f (claims_sum t) (sum_at t) sum.Post sum_Inv_loop sum_μ_loop
 sum_add_product t c =
-    let h = c.level_at.ensures.1 (omega (arith, c.if-mark_at-m.false)) in
+    let h = c.level_at.ensures.1 (omega (arith, c.if-level_at-ne-SUM.false)) in
     omega arith
 
 sum_product_requires_2 : (t : ℕ) → sum-lts.Need-product-r-requires-in-loop-r (claims_sum t) (sum_at t) sum.Post sum_Inv_loop
     sum_μ_loop
 sum_product_requires_2 t c κs =
-    let h = c.level_at.ensures.1 (omega (arith, c.if-mark_at-m.false)) in
-    let u = so_far c.args.out.now c.loop-r.invariant c.product-r.ensures.0
-    c.product-r.ensures.1 c.requires.1 in
-    let w = level_ahead _ _ _ u c.in-Done.is in
-    (omega (arith, c.requires.0), (next_room _ _ _ u c.in-Done.is, (u.few, u.kept)))
+    let at_level_at = c in
+    let at_r = at_level_at in
+    let at_loop = at_r in
+    let at_product = at_loop in
+    let at_entry_lem = at_product in
+    let h = at_level_at.level_at.ensures.1 (omega (arith, c.if-level_at-ne-SUM.false)) in
+    let u = so_far at_entry_lem.args.out.now at_loop.loop-r.invariant at_product.product-r.ensures.0
+    at_product.product-r.ensures.1 at_entry_lem.requires.1 in
+    let w = level_ahead _ _ _ u at_r.in-Done.is in
+    (omega (arith, at_entry_lem.requires.0), (next_room _ _ _ u at_r.in-Done.is, (u.few, u.kept)))
 
 sum_mul_close : (t : ℕ) → sum-lts.Need-offset_bounds-ts-f (claims_sum t) (sum_at t) sum.Post sum_Inv_loop sum_μ_loop
 sum_mul_close t c =
-    let h = c.level_at.ensures.1 (omega (arith, c.if-mark_at-m.false)) in
-    omega (arith, c.requires.1.1.0)
+    let at_if1 = c in
+    let at_level_at = at_if1 in
+    let at_entry_lem = at_level_at in
+    let h = at_level_at.level_at.ensures.1 (omega (arith, at_if1.if-level_at-ne-SUM.false)) in
+    omega (arith, at_entry_lem.requires.1.1.0)
 
 sum_shared_slice_read_close : (t : ℕ) → sum-lts.Need-bounds-ts-f (claims_sum t) (sum_at t) sum.Post
     sum_Inv_loop sum_μ_loop
 sum_shared_slice_read_close t c =
-    c.level_at.ensures.1 (omega (arith, c.if-mark_at-m.false))
+    let at_if1 = c in
+    at_if1.level_at.ensures.1 (omega (arith, at_if1.if-level_at-ne-SUM.false))
 
 sum_cast_close : (t : ℕ) → sum-lts.Need-overflow_cast-ts (claims_sum t) (sum_at t) sum.Post sum_Inv_loop sum_μ_loop
 sum_cast_close t c = omega arith
 
 sum_close_requires : (t : ℕ) → sum-lts.Need-close-r-requires (claims_sum t) (sum_at t) sum.Post sum_Inv_loop sum_μ_loop
 sum_close_requires t c κs =
-    let long = c.product-r-in-loop-r.ensures.1.1 in (
-      level_closable _ _ _ (so_far c.args.out.now c.loop-r.invariant c.product-r.ensures.0
-          c.product-r.ensures.1 c.requires.1) c.in-Done.is c.product-r-in-loop-r.result
-          c.product-r-in-loop-r.new.1.1.0 long c.product-r-in-loop-r.ensures.1.0,
+    let at_product2 = c in
+    let at_r = at_product2 in
+    let at_loop = at_r in
+    let at_product = at_loop in
+    let at_entry_lem = at_product in
+    let long = at_product2.product-r-in-loop-r.ensures.1.1 in (
+      level_closable _ _ _ (so_far at_entry_lem.args.out.now at_loop.loop-r.invariant at_product.product-r.ensures.0
+          at_product.product-r.ensures.1 at_entry_lem.requires.1) at_r.in-Done.is at_product2.product-r-in-loop-r.result
+          at_product2.product-r-in-loop-r.new.out long at_product2.product-r-in-loop-r.ensures.1.0,
       omega arith,
     )
 
 sum_loop_less : (t : ℕ) → sum-lts.Need-loop-r-smaller (claims_sum t) (sum_at t) sum.Post sum_Inv_loop sum_μ_loop
 sum_loop_less t c =
-    let h = c.level_at.ensures.1 (omega (arith, c.if-mark_at-m.false)) in
-    level_less (length c.args.ts.now) _ _ _ c.loop-r.r-1 c.product-r-in-loop-r.result
-    c.close-r.result c.in-Done.is h c.product-r-in-loop-r.ensures.1.0 c.close-r.ensures.0
+    let at_product2 = c in
+    let at_if1 = at_product2 in
+    let at_r = at_if1 in
+    let at_loop = at_r in
+    let at_entry_lem = at_loop in
+    let h = at_if1.level_at.ensures.1 (omega (arith, at_if1.if-level_at-ne-SUM.false)) in
+    level_less (length at_entry_lem.args.ts.now) _ _ _ at_loop.loop-r.r at_product2.product-r-in-loop-r.result
+    c.close-r.result at_r.in-Done.is h at_product2.product-r-in-loop-r.ensures.1.0 c.close-r.ensures.0
 
 sum_loop_again : (t : ℕ) → sum-lts.Need-loop-r-preserved (claims_sum t) (sum_at t) sum.Post sum_Inv_loop sum_μ_loop
 sum_loop_again t c o u =
-    let h = c.level_at.ensures.1 (omega (arith, c.if-mark_at-m.false)) in
-    let long = c.product-r-in-loop-r.ensures.1.1 in
-    level_turn _ _ _ (c.loop-r.invariant o u) c.in-Done.is c.product-r-in-loop-r.result
-    c.product-r-in-loop-r.new.1.1.0 (sym c.level_at.ensures.0 ∙ c.if-mark_at-m.false) h
-    c.product-r-in-loop-r.ensures.0 c.product-r-in-loop-r.ensures.1.0 long c.close-r.result
-    c.close-r.new.1.1.1.1.0 c.close-r.ensures.0 c.close-r.ensures.1
-    (c.close-r.auto.1.1.1.1.0 ∙ long)
+    let at_product2 = c in
+    let at_if1 = at_product2 in
+    let at_level_at = at_if1 in
+    let at_r = at_level_at in
+    let h = at_level_at.level_at.ensures.1 (omega (arith, at_if1.if-level_at-ne-SUM.false)) in
+    let long = at_product2.product-r-in-loop-r.ensures.1.1 in
+    level_turn _ _ _ (at_r.loop-r.invariant o u) at_r.in-Done.is at_product2.product-r-in-loop-r.result
+    at_product2.product-r-in-loop-r.new.out (sym at_level_at.level_at.ensures.0 ∙ at_if1.if-level_at-ne-SUM.false) h
+    at_product2.product-r-in-loop-r.ensures.0 at_product2.product-r-in-loop-r.ensures.1.0 long c.close-r.result
+    c.close-r.new.out c.close-r.ensures.0 c.close-r.ensures.1
+    (c.close-r.auto.out ∙ long)
 
 -- ---- the level of orderings
 
@@ -601,45 +705,61 @@ ordering_enum_told t c = search rules
 ordering_returns : (t : ℕ) → ordering-lts.Need-returns-in_default (claims_ordering t) (ordering_at t) ordering.Post
     ordering_Inv_loop ordering_μ_loop
 ordering_returns t c =
-    level_fault (so_far c.args.out.now c.loop-r.invariant c.sum-r.ensures.0
-    c.sum-r.ensures.1 c.requires.1) c.in_default.is
+    let at_loop = c in
+    let at_sum = at_loop in
+    let at_entry_lem = at_sum in
+    level_fault (so_far at_entry_lem.args.out.now at_loop.loop-r.invariant at_sum.sum-r.ensures.0
+    at_sum.sum-r.ensures.1 at_entry_lem.requires.1) c.in_default.is
 
 ordering_level_at_requires : (t : ℕ) → ordering-lts.Need-level_at-requires (claims_ordering t) (ordering_at t)
     ordering.Post ordering_Inv_loop ordering_μ_loop
 ordering_level_at_requires t c κs = search rules
 
-ordering_returns_2 : (t : ℕ) → ordering-lts.Need-returns-then-mark_at-m (claims_ordering t) (ordering_at t) ordering.Post
+ordering_returns_2 : (t : ℕ) → ordering-lts.Need-returns-then-level_at-ne-ORDERING (claims_ordering t) (ordering_at t) ordering.Post
     ordering_Inv_loop ordering_μ_loop
 ordering_returns_2 t c =
-    level_end _ _ _ (so_far c.args.out.now c.loop-r.invariant c.sum-r.ensures.0
-    c.sum-r.ensures.1 c.requires.1) c.in-Done.is
-    (λ e. c.if-mark_at-m.true (c.level_at.ensures.0 ∙ e))
+    let at_r = c in
+    let at_loop = at_r in
+    let at_sum = at_loop in
+    let at_entry_lem = at_sum in
+    level_end _ _ _ (so_far at_entry_lem.args.out.now at_loop.loop-r.invariant at_sum.sum-r.ensures.0
+    at_sum.sum-r.ensures.1 at_entry_lem.requires.1) at_r.in-Done.is
+    (λ e. c.if-level_at-ne-ORDERING.true (c.level_at.ensures.0 ∙ e))
 
 ordering_add_sum : (t : ℕ) → ordering-lts.Need-overflow_add-f (claims_ordering t) (ordering_at t) ordering.Post
     ordering_Inv_loop ordering_μ_loop
 ordering_add_sum t c =
-    let h = c.level_at.ensures.1 (omega (arith, c.if-mark_at-m.false)) in
+    let h = c.level_at.ensures.1 (omega (arith, c.if-level_at-ne-ORDERING.false)) in
     omega arith
 
 ordering_sum_requires_2 : (t : ℕ) → ordering-lts.Need-sum-r-requires-in-loop-r (claims_ordering t) (ordering_at t)
     ordering.Post ordering_Inv_loop ordering_μ_loop
 ordering_sum_requires_2 t c κs =
-    let h = c.level_at.ensures.1 (omega (arith, c.if-mark_at-m.false)) in
-    let u = so_far c.args.out.now c.loop-r.invariant c.sum-r.ensures.0
-    c.sum-r.ensures.1 c.requires.1 in
-    let w = level_ahead _ _ _ u c.in-Done.is in
-    (omega (arith, c.requires.0), (next_room _ _ _ u c.in-Done.is, (u.few, u.kept)))
+    let at_level_at = c in
+    let at_r = at_level_at in
+    let at_loop = at_r in
+    let at_sum = at_loop in
+    let at_entry_lem = at_sum in
+    let h = at_level_at.level_at.ensures.1 (omega (arith, c.if-level_at-ne-ORDERING.false)) in
+    let u = so_far at_entry_lem.args.out.now at_loop.loop-r.invariant at_sum.sum-r.ensures.0
+    at_sum.sum-r.ensures.1 at_entry_lem.requires.1 in
+    let w = level_ahead _ _ _ u at_r.in-Done.is in
+    (omega (arith, at_entry_lem.requires.0), (next_room _ _ _ u at_r.in-Done.is, (u.few, u.kept)))
 
 ordering_mul_close : (t : ℕ) → ordering-lts.Need-offset_bounds-ts-f (claims_ordering t) (ordering_at t) ordering.Post
     ordering_Inv_loop ordering_μ_loop
 ordering_mul_close t c =
-    let h = c.level_at.ensures.1 (omega (arith, c.if-mark_at-m.false)) in
-    omega (arith, c.requires.1.1.0)
+    let at_if1 = c in
+    let at_level_at = at_if1 in
+    let at_entry_lem = at_level_at in
+    let h = at_level_at.level_at.ensures.1 (omega (arith, at_if1.if-level_at-ne-ORDERING.false)) in
+    omega (arith, at_entry_lem.requires.1.1.0)
 
 ordering_shared_slice_read_close : (t : ℕ) → ordering-lts.Need-bounds-ts-f (claims_ordering t)
     (ordering_at t) ordering.Post ordering_Inv_loop ordering_μ_loop
 ordering_shared_slice_read_close t c =
-    c.level_at.ensures.1 (omega (arith, c.if-mark_at-m.false))
+    let at_if1 = c in
+    at_if1.level_at.ensures.1 (omega (arith, at_if1.if-level_at-ne-ORDERING.false))
 
 ordering_cast_close : (t : ℕ) → ordering-lts.Need-overflow_cast-ts (claims_ordering t) (ordering_at t) ordering.Post
     ordering_Inv_loop ordering_μ_loop
@@ -648,30 +768,44 @@ ordering_cast_close t c = omega arith
 ordering_close_requires : (t : ℕ) → ordering-lts.Need-close-r-requires (claims_ordering t) (ordering_at t)
     ordering.Post ordering_Inv_loop ordering_μ_loop
 ordering_close_requires t c κs =
-    let long = c.sum-r-in-loop-r.ensures.1.1 in (
-      level_closable _ _ _ (so_far c.args.out.now c.loop-r.invariant c.sum-r.ensures.0
-          c.sum-r.ensures.1 c.requires.1) c.in-Done.is c.sum-r-in-loop-r.result
-          c.sum-r-in-loop-r.new.1.1.0 long c.sum-r-in-loop-r.ensures.1.0,
+    let at_sum2 = c in
+    let at_r = at_sum2 in
+    let at_loop = at_r in
+    let at_sum = at_loop in
+    let at_entry_lem = at_sum in
+    let long = at_sum2.sum-r-in-loop-r.ensures.1.1 in (
+      level_closable _ _ _ (so_far at_entry_lem.args.out.now at_loop.loop-r.invariant at_sum.sum-r.ensures.0
+          at_sum.sum-r.ensures.1 at_entry_lem.requires.1) at_r.in-Done.is at_sum2.sum-r-in-loop-r.result
+          at_sum2.sum-r-in-loop-r.new.out long at_sum2.sum-r-in-loop-r.ensures.1.0,
       omega arith,
     )
 
 ordering_loop_less : (t : ℕ) → ordering-lts.Need-loop-r-smaller (claims_ordering t) (ordering_at t) ordering.Post
     ordering_Inv_loop ordering_μ_loop
 ordering_loop_less t c =
-    let h = c.level_at.ensures.1 (omega (arith, c.if-mark_at-m.false)) in
-    level_less (length c.args.ts.now) _ _ _ c.loop-r.r-1 c.sum-r-in-loop-r.result c.close-r.result
-    c.in-Done.is h c.sum-r-in-loop-r.ensures.1.0 c.close-r.ensures.0
+    let at_sum2 = c in
+    let at_if1 = at_sum2 in
+    let at_r = at_if1 in
+    let at_loop = at_r in
+    let at_entry_lem = at_loop in
+    let h = at_if1.level_at.ensures.1 (omega (arith, at_if1.if-level_at-ne-ORDERING.false)) in
+    level_less (length at_entry_lem.args.ts.now) _ _ _ at_loop.loop-r.r at_sum2.sum-r-in-loop-r.result c.close-r.result
+    at_r.in-Done.is h at_sum2.sum-r-in-loop-r.ensures.1.0 c.close-r.ensures.0
 
 ordering_loop_again : (t : ℕ) → ordering-lts.Need-loop-r-preserved (claims_ordering t) (ordering_at t) ordering.Post
     ordering_Inv_loop ordering_μ_loop
 ordering_loop_again t c o u =
-    let h = c.level_at.ensures.1 (omega (arith, c.if-mark_at-m.false)) in
-    let long = c.sum-r-in-loop-r.ensures.1.1 in
-    level_turn _ _ _ (c.loop-r.invariant o u) c.in-Done.is c.sum-r-in-loop-r.result
-    c.sum-r-in-loop-r.new.1.1.0 (sym c.level_at.ensures.0 ∙ c.if-mark_at-m.false) h
-    c.sum-r-in-loop-r.ensures.0 c.sum-r-in-loop-r.ensures.1.0 long c.close-r.result
-    c.close-r.new.1.1.1.1.0 c.close-r.ensures.0 c.close-r.ensures.1
-    (c.close-r.auto.1.1.1.1.0 ∙ long)
+    let at_sum2 = c in
+    let at_if1 = at_sum2 in
+    let at_level_at = at_if1 in
+    let at_r = at_level_at in
+    let h = at_level_at.level_at.ensures.1 (omega (arith, at_if1.if-level_at-ne-ORDERING.false)) in
+    let long = at_sum2.sum-r-in-loop-r.ensures.1.1 in
+    level_turn _ _ _ (at_r.loop-r.invariant o u) at_r.in-Done.is at_sum2.sum-r-in-loop-r.result
+    at_sum2.sum-r-in-loop-r.new.out (sym at_level_at.level_at.ensures.0 ∙ at_if1.if-level_at-ne-ORDERING.false) h
+    at_sum2.sum-r-in-loop-r.ensures.0 at_sum2.sum-r-in-loop-r.ensures.1.0 long c.close-r.result
+    c.close-r.new.out c.close-r.ensures.0 c.close-r.ensures.1
+    (c.close-r.auto.out ∙ long)
 
 -- ---- the level of equalities
 
@@ -695,45 +829,61 @@ equality_enum_told t c = search rules
 equality_returns : (t : ℕ) → equality-lts.Need-returns-in_default (claims_equality t) (equality_at t) equality.Post
     equality_Inv_loop equality_μ_loop
 equality_returns t c =
-    level_fault (so_far c.args.out.now c.loop-r.invariant c.ordering-r.ensures.0
-    c.ordering-r.ensures.1 c.requires.1) c.in_default.is
+    let at_loop = c in
+    let at_ordering = at_loop in
+    let at_entry_lem = at_ordering in
+    level_fault (so_far at_entry_lem.args.out.now at_loop.loop-r.invariant at_ordering.ordering-r.ensures.0
+    at_ordering.ordering-r.ensures.1 at_entry_lem.requires.1) c.in_default.is
 
 equality_level_at_requires : (t : ℕ) → equality-lts.Need-level_at-requires (claims_equality t) (equality_at t)
     equality.Post equality_Inv_loop equality_μ_loop
 equality_level_at_requires t c κs = search rules
 
-equality_returns_2 : (t : ℕ) → equality-lts.Need-returns-then-mark_at-m (claims_equality t) (equality_at t) equality.Post
+equality_returns_2 : (t : ℕ) → equality-lts.Need-returns-then-level_at-ne-EQUALITY (claims_equality t) (equality_at t) equality.Post
     equality_Inv_loop equality_μ_loop
 equality_returns_2 t c =
-    level_end _ _ _ (so_far c.args.out.now c.loop-r.invariant c.ordering-r.ensures.0
-    c.ordering-r.ensures.1 c.requires.1) c.in-Done.is
-    (λ e. c.if-mark_at-m.true (c.level_at.ensures.0 ∙ e))
+    let at_r = c in
+    let at_loop = at_r in
+    let at_ordering = at_loop in
+    let at_entry_lem = at_ordering in
+    level_end _ _ _ (so_far at_entry_lem.args.out.now at_loop.loop-r.invariant at_ordering.ordering-r.ensures.0
+    at_ordering.ordering-r.ensures.1 at_entry_lem.requires.1) at_r.in-Done.is
+    (λ e. c.if-level_at-ne-EQUALITY.true (c.level_at.ensures.0 ∙ e))
 
 equality_add_ordering : (t : ℕ) → equality-lts.Need-overflow_add-f (claims_equality t) (equality_at t) equality.Post
     equality_Inv_loop equality_μ_loop
 equality_add_ordering t c =
-    let h = c.level_at.ensures.1 (omega (arith, c.if-mark_at-m.false)) in
+    let h = c.level_at.ensures.1 (omega (arith, c.if-level_at-ne-EQUALITY.false)) in
     omega arith
 
 equality_ordering_requires_2 : (t : ℕ) → equality-lts.Need-ordering-r-requires-in-loop-r (claims_equality t) (equality_at t)
     equality.Post equality_Inv_loop equality_μ_loop
 equality_ordering_requires_2 t c κs =
-    let h = c.level_at.ensures.1 (omega (arith, c.if-mark_at-m.false)) in
-    let u = so_far c.args.out.now c.loop-r.invariant c.ordering-r.ensures.0
-    c.ordering-r.ensures.1 c.requires.1 in
-    let w = level_ahead _ _ _ u c.in-Done.is in
-    (omega (arith, c.requires.0), (next_room _ _ _ u c.in-Done.is, (u.few, u.kept)))
+    let at_level_at = c in
+    let at_r = at_level_at in
+    let at_loop = at_r in
+    let at_ordering = at_loop in
+    let at_entry_lem = at_ordering in
+    let h = at_level_at.level_at.ensures.1 (omega (arith, c.if-level_at-ne-EQUALITY.false)) in
+    let u = so_far at_entry_lem.args.out.now at_loop.loop-r.invariant at_ordering.ordering-r.ensures.0
+    at_ordering.ordering-r.ensures.1 at_entry_lem.requires.1 in
+    let w = level_ahead _ _ _ u at_r.in-Done.is in
+    (omega (arith, at_entry_lem.requires.0), (next_room _ _ _ u at_r.in-Done.is, (u.few, u.kept)))
 
 equality_mul_close : (t : ℕ) → equality-lts.Need-offset_bounds-ts-f (claims_equality t) (equality_at t) equality.Post
     equality_Inv_loop equality_μ_loop
 equality_mul_close t c =
-    let h = c.level_at.ensures.1 (omega (arith, c.if-mark_at-m.false)) in
-    omega (arith, c.requires.1.1.0)
+    let at_if1 = c in
+    let at_level_at = at_if1 in
+    let at_entry_lem = at_level_at in
+    let h = at_level_at.level_at.ensures.1 (omega (arith, at_if1.if-level_at-ne-EQUALITY.false)) in
+    omega (arith, at_entry_lem.requires.1.1.0)
 
 equality_shared_slice_read_close : (t : ℕ) → equality-lts.Need-bounds-ts-f (claims_equality t)
     (equality_at t) equality.Post equality_Inv_loop equality_μ_loop
 equality_shared_slice_read_close t c =
-    c.level_at.ensures.1 (omega (arith, c.if-mark_at-m.false))
+    let at_if1 = c in
+    at_if1.level_at.ensures.1 (omega (arith, at_if1.if-level_at-ne-EQUALITY.false))
 
 equality_cast_close : (t : ℕ) → equality-lts.Need-overflow_cast-ts (claims_equality t) (equality_at t) equality.Post
     equality_Inv_loop equality_μ_loop
@@ -742,30 +892,44 @@ equality_cast_close t c = omega arith
 equality_close_requires : (t : ℕ) → equality-lts.Need-close-r-requires (claims_equality t) (equality_at t)
     equality.Post equality_Inv_loop equality_μ_loop
 equality_close_requires t c κs =
-    let long = c.ordering-r-in-loop-r.ensures.1.1 in (
-      level_closable _ _ _ (so_far c.args.out.now c.loop-r.invariant c.ordering-r.ensures.0
-          c.ordering-r.ensures.1 c.requires.1) c.in-Done.is c.ordering-r-in-loop-r.result
-          c.ordering-r-in-loop-r.new.1.1.0 long c.ordering-r-in-loop-r.ensures.1.0,
+    let at_ordering2 = c in
+    let at_r = at_ordering2 in
+    let at_loop = at_r in
+    let at_ordering = at_loop in
+    let at_entry_lem = at_ordering in
+    let long = at_ordering2.ordering-r-in-loop-r.ensures.1.1 in (
+      level_closable _ _ _ (so_far at_entry_lem.args.out.now at_loop.loop-r.invariant at_ordering.ordering-r.ensures.0
+          at_ordering.ordering-r.ensures.1 at_entry_lem.requires.1) at_r.in-Done.is at_ordering2.ordering-r-in-loop-r.result
+          at_ordering2.ordering-r-in-loop-r.new.out long at_ordering2.ordering-r-in-loop-r.ensures.1.0,
       omega arith,
     )
 
 equality_loop_less : (t : ℕ) → equality-lts.Need-loop-r-smaller (claims_equality t) (equality_at t) equality.Post
     equality_Inv_loop equality_μ_loop
 equality_loop_less t c =
-    let h = c.level_at.ensures.1 (omega (arith, c.if-mark_at-m.false)) in
-    level_less (length c.args.ts.now) _ _ _ c.loop-r.r-1 c.ordering-r-in-loop-r.result
-    c.close-r.result c.in-Done.is h c.ordering-r-in-loop-r.ensures.1.0 c.close-r.ensures.0
+    let at_ordering2 = c in
+    let at_if1 = at_ordering2 in
+    let at_r = at_if1 in
+    let at_loop = at_r in
+    let at_entry_lem = at_loop in
+    let h = at_if1.level_at.ensures.1 (omega (arith, at_if1.if-level_at-ne-EQUALITY.false)) in
+    level_less (length at_entry_lem.args.ts.now) _ _ _ at_loop.loop-r.r at_ordering2.ordering-r-in-loop-r.result
+    c.close-r.result at_r.in-Done.is h at_ordering2.ordering-r-in-loop-r.ensures.1.0 c.close-r.ensures.0
 
 equality_loop_again : (t : ℕ) → equality-lts.Need-loop-r-preserved (claims_equality t) (equality_at t) equality.Post
     equality_Inv_loop equality_μ_loop
 equality_loop_again t c o u =
-    let h = c.level_at.ensures.1 (omega (arith, c.if-mark_at-m.false)) in
-    let long = c.ordering-r-in-loop-r.ensures.1.1 in
-    level_turn _ _ _ (c.loop-r.invariant o u) c.in-Done.is c.ordering-r-in-loop-r.result
-    c.ordering-r-in-loop-r.new.1.1.0 (sym c.level_at.ensures.0 ∙ c.if-mark_at-m.false) h
-    c.ordering-r-in-loop-r.ensures.0 c.ordering-r-in-loop-r.ensures.1.0 long c.close-r.result
-    c.close-r.new.1.1.1.1.0 c.close-r.ensures.0 c.close-r.ensures.1
-    (c.close-r.auto.1.1.1.1.0 ∙ long)
+    let at_ordering2 = c in
+    let at_if1 = at_ordering2 in
+    let at_level_at = at_if1 in
+    let at_r = at_level_at in
+    let h = at_level_at.level_at.ensures.1 (omega (arith, at_if1.if-level_at-ne-EQUALITY.false)) in
+    let long = at_ordering2.ordering-r-in-loop-r.ensures.1.1 in
+    level_turn _ _ _ (at_r.loop-r.invariant o u) at_r.in-Done.is at_ordering2.ordering-r-in-loop-r.result
+    at_ordering2.ordering-r-in-loop-r.new.out (sym at_level_at.level_at.ensures.0 ∙ at_if1.if-level_at-ne-EQUALITY.false) h
+    at_ordering2.ordering-r-in-loop-r.ensures.0 at_ordering2.ordering-r-in-loop-r.ensures.1.0 long c.close-r.result
+    c.close-r.new.out c.close-r.ensures.0 c.close-r.ensures.1
+    (c.close-r.auto.out ∙ long)
 
 -- ---- the level of conjunctions
 
@@ -789,45 +953,61 @@ conjunction_enum_told t c = search rules
 conjunction_returns : (t : ℕ) → conjunction-lts.Need-returns-in_default (claims_conjunction t) (conjunction_at t)
     conjunction.Post conjunction_Inv_loop conjunction_μ_loop
 conjunction_returns t c =
-    level_fault (so_far c.args.out.now c.loop-r.invariant c.equality-r.ensures.0
-    c.equality-r.ensures.1 c.requires.1) c.in_default.is
+    let at_loop = c in
+    let at_equality = at_loop in
+    let at_entry_lem = at_equality in
+    level_fault (so_far at_entry_lem.args.out.now at_loop.loop-r.invariant at_equality.equality-r.ensures.0
+    at_equality.equality-r.ensures.1 at_entry_lem.requires.1) c.in_default.is
 
 conjunction_level_at_requires : (t : ℕ) → conjunction-lts.Need-level_at-requires (claims_conjunction t)
     (conjunction_at t) conjunction.Post conjunction_Inv_loop conjunction_μ_loop
 conjunction_level_at_requires t c κs = search rules
 
-conjunction_returns_2 : (t : ℕ) → conjunction-lts.Need-returns-then-mark_at-m (claims_conjunction t) (conjunction_at t)
+conjunction_returns_2 : (t : ℕ) → conjunction-lts.Need-returns-then-level_at-ne-CONJUNCTION (claims_conjunction t) (conjunction_at t)
     conjunction.Post conjunction_Inv_loop conjunction_μ_loop
 conjunction_returns_2 t c =
-    level_end _ _ _ (so_far c.args.out.now c.loop-r.invariant c.equality-r.ensures.0
-    c.equality-r.ensures.1 c.requires.1) c.in-Done.is
-    (λ e. c.if-mark_at-m.true (c.level_at.ensures.0 ∙ e))
+    let at_r = c in
+    let at_loop = at_r in
+    let at_equality = at_loop in
+    let at_entry_lem = at_equality in
+    level_end _ _ _ (so_far at_entry_lem.args.out.now at_loop.loop-r.invariant at_equality.equality-r.ensures.0
+    at_equality.equality-r.ensures.1 at_entry_lem.requires.1) at_r.in-Done.is
+    (λ e. c.if-level_at-ne-CONJUNCTION.true (c.level_at.ensures.0 ∙ e))
 
 conjunction_add_equality : (t : ℕ) → conjunction-lts.Need-overflow_add-f (claims_conjunction t) (conjunction_at t)
     conjunction.Post conjunction_Inv_loop conjunction_μ_loop
 conjunction_add_equality t c =
-    let h = c.level_at.ensures.1 (omega (arith, c.if-mark_at-m.false)) in
+    let h = c.level_at.ensures.1 (omega (arith, c.if-level_at-ne-CONJUNCTION.false)) in
     omega arith
 
 conjunction_equality_requires_2 : (t : ℕ) → conjunction-lts.Need-equality-r-requires-in-loop-r (claims_conjunction t)
     (conjunction_at t) conjunction.Post conjunction_Inv_loop conjunction_μ_loop
 conjunction_equality_requires_2 t c κs =
-    let h = c.level_at.ensures.1 (omega (arith, c.if-mark_at-m.false)) in
-    let u = so_far c.args.out.now c.loop-r.invariant c.equality-r.ensures.0
-    c.equality-r.ensures.1 c.requires.1 in
-    let w = level_ahead _ _ _ u c.in-Done.is in
-    (omega (arith, c.requires.0), (next_room _ _ _ u c.in-Done.is, (u.few, u.kept)))
+    let at_level_at = c in
+    let at_r = at_level_at in
+    let at_loop = at_r in
+    let at_equality = at_loop in
+    let at_entry_lem = at_equality in
+    let h = at_level_at.level_at.ensures.1 (omega (arith, c.if-level_at-ne-CONJUNCTION.false)) in
+    let u = so_far at_entry_lem.args.out.now at_loop.loop-r.invariant at_equality.equality-r.ensures.0
+    at_equality.equality-r.ensures.1 at_entry_lem.requires.1 in
+    let w = level_ahead _ _ _ u at_r.in-Done.is in
+    (omega (arith, at_entry_lem.requires.0), (next_room _ _ _ u at_r.in-Done.is, (u.few, u.kept)))
 
 conjunction_mul_close : (t : ℕ) → conjunction-lts.Need-offset_bounds-ts-f (claims_conjunction t) (conjunction_at t)
     conjunction.Post conjunction_Inv_loop conjunction_μ_loop
 conjunction_mul_close t c =
-    let h = c.level_at.ensures.1 (omega (arith, c.if-mark_at-m.false)) in
-    omega (arith, c.requires.1.1.0)
+    let at_if1 = c in
+    let at_level_at = at_if1 in
+    let at_entry_lem = at_level_at in
+    let h = at_level_at.level_at.ensures.1 (omega (arith, at_if1.if-level_at-ne-CONJUNCTION.false)) in
+    omega (arith, at_entry_lem.requires.1.1.0)
 
 conjunction_shared_slice_read_close : (t : ℕ) → conjunction-lts.Need-bounds-ts-f (claims_conjunction t)
     (conjunction_at t) conjunction.Post conjunction_Inv_loop conjunction_μ_loop
 conjunction_shared_slice_read_close t c =
-    c.level_at.ensures.1 (omega (arith, c.if-mark_at-m.false))
+    let at_if1 = c in
+    at_if1.level_at.ensures.1 (omega (arith, at_if1.if-level_at-ne-CONJUNCTION.false))
 
 conjunction_cast_close : (t : ℕ) → conjunction-lts.Need-overflow_cast-ts (claims_conjunction t) (conjunction_at t)
     conjunction.Post conjunction_Inv_loop conjunction_μ_loop
@@ -836,30 +1016,44 @@ conjunction_cast_close t c = omega arith
 conjunction_close_requires : (t : ℕ) → conjunction-lts.Need-close-r-requires (claims_conjunction t) (conjunction_at t)
     conjunction.Post conjunction_Inv_loop conjunction_μ_loop
 conjunction_close_requires t c κs =
-    let long = c.equality-r-in-loop-r.ensures.1.1 in (
-      level_closable _ _ _ (so_far c.args.out.now c.loop-r.invariant c.equality-r.ensures.0
-          c.equality-r.ensures.1 c.requires.1) c.in-Done.is c.equality-r-in-loop-r.result
-          c.equality-r-in-loop-r.new.1.1.0 long c.equality-r-in-loop-r.ensures.1.0,
+    let at_equality2 = c in
+    let at_r = at_equality2 in
+    let at_loop = at_r in
+    let at_equality = at_loop in
+    let at_entry_lem = at_equality in
+    let long = at_equality2.equality-r-in-loop-r.ensures.1.1 in (
+      level_closable _ _ _ (so_far at_entry_lem.args.out.now at_loop.loop-r.invariant at_equality.equality-r.ensures.0
+          at_equality.equality-r.ensures.1 at_entry_lem.requires.1) at_r.in-Done.is at_equality2.equality-r-in-loop-r.result
+          at_equality2.equality-r-in-loop-r.new.out long at_equality2.equality-r-in-loop-r.ensures.1.0,
       omega arith,
     )
 
 conjunction_loop_less : (t : ℕ) → conjunction-lts.Need-loop-r-smaller (claims_conjunction t) (conjunction_at t)
     conjunction.Post conjunction_Inv_loop conjunction_μ_loop
 conjunction_loop_less t c =
-    let h = c.level_at.ensures.1 (omega (arith, c.if-mark_at-m.false)) in
-    level_less (length c.args.ts.now) _ _ _ c.loop-r.r-1 c.equality-r-in-loop-r.result
-    c.close-r.result c.in-Done.is h c.equality-r-in-loop-r.ensures.1.0 c.close-r.ensures.0
+    let at_equality2 = c in
+    let at_if1 = at_equality2 in
+    let at_r = at_if1 in
+    let at_loop = at_r in
+    let at_entry_lem = at_loop in
+    let h = at_if1.level_at.ensures.1 (omega (arith, at_if1.if-level_at-ne-CONJUNCTION.false)) in
+    level_less (length at_entry_lem.args.ts.now) _ _ _ at_loop.loop-r.r at_equality2.equality-r-in-loop-r.result
+    c.close-r.result at_r.in-Done.is h at_equality2.equality-r-in-loop-r.ensures.1.0 c.close-r.ensures.0
 
 conjunction_loop_again : (t : ℕ) → conjunction-lts.Need-loop-r-preserved (claims_conjunction t) (conjunction_at t)
     conjunction.Post conjunction_Inv_loop conjunction_μ_loop
 conjunction_loop_again t c o u =
-    let h = c.level_at.ensures.1 (omega (arith, c.if-mark_at-m.false)) in
-    let long = c.equality-r-in-loop-r.ensures.1.1 in
-    level_turn _ _ _ (c.loop-r.invariant o u) c.in-Done.is c.equality-r-in-loop-r.result
-    c.equality-r-in-loop-r.new.1.1.0 (sym c.level_at.ensures.0 ∙ c.if-mark_at-m.false) h
-    c.equality-r-in-loop-r.ensures.0 c.equality-r-in-loop-r.ensures.1.0 long c.close-r.result
-    c.close-r.new.1.1.1.1.0 c.close-r.ensures.0 c.close-r.ensures.1
-    (c.close-r.auto.1.1.1.1.0 ∙ long)
+    let at_equality2 = c in
+    let at_if1 = at_equality2 in
+    let at_level_at = at_if1 in
+    let at_r = at_level_at in
+    let h = at_level_at.level_at.ensures.1 (omega (arith, at_if1.if-level_at-ne-CONJUNCTION.false)) in
+    let long = at_equality2.equality-r-in-loop-r.ensures.1.1 in
+    level_turn _ _ _ (at_r.loop-r.invariant o u) at_r.in-Done.is at_equality2.equality-r-in-loop-r.result
+    at_equality2.equality-r-in-loop-r.new.out (sym at_level_at.level_at.ensures.0 ∙ at_if1.if-level_at-ne-CONJUNCTION.false) h
+    at_equality2.equality-r-in-loop-r.ensures.0 at_equality2.equality-r-in-loop-r.ensures.1.0 long c.close-r.result
+    c.close-r.new.out c.close-r.ensures.0 c.close-r.ensures.1
+    (c.close-r.auto.out ∙ long)
 
 -- ---- the level of disjunctions
 
@@ -883,45 +1077,61 @@ disjunction_enum_told t c = search rules
 disjunction_returns : (t : ℕ) → disjunction-lts.Need-returns-in_default (claims_disjunction t) (disjunction_at t)
     disjunction.Post disjunction_Inv_loop disjunction_μ_loop
 disjunction_returns t c =
-    level_fault (so_far c.args.out.now c.loop-r.invariant c.conjunction-r.ensures.0
-    c.conjunction-r.ensures.1 c.requires.1) c.in_default.is
+    let at_loop = c in
+    let at_conjunction = at_loop in
+    let at_entry_lem = at_conjunction in
+    level_fault (so_far at_entry_lem.args.out.now at_loop.loop-r.invariant at_conjunction.conjunction-r.ensures.0
+    at_conjunction.conjunction-r.ensures.1 at_entry_lem.requires.1) c.in_default.is
 
 disjunction_level_at_requires : (t : ℕ) → disjunction-lts.Need-level_at-requires (claims_disjunction t)
     (disjunction_at t) disjunction.Post disjunction_Inv_loop disjunction_μ_loop
 disjunction_level_at_requires t c κs = search rules
 
-disjunction_returns_2 : (t : ℕ) → disjunction-lts.Need-returns-then-mark_at-m (claims_disjunction t) (disjunction_at t)
+disjunction_returns_2 : (t : ℕ) → disjunction-lts.Need-returns-then-level_at-ne-DISJUNCTION (claims_disjunction t) (disjunction_at t)
     disjunction.Post disjunction_Inv_loop disjunction_μ_loop
 disjunction_returns_2 t c =
-    level_end _ _ _ (so_far c.args.out.now c.loop-r.invariant c.conjunction-r.ensures.0
-    c.conjunction-r.ensures.1 c.requires.1) c.in-Done.is
-    (λ e. c.if-mark_at-m.true (c.level_at.ensures.0 ∙ e))
+    let at_r = c in
+    let at_loop = at_r in
+    let at_conjunction = at_loop in
+    let at_entry_lem = at_conjunction in
+    level_end _ _ _ (so_far at_entry_lem.args.out.now at_loop.loop-r.invariant at_conjunction.conjunction-r.ensures.0
+    at_conjunction.conjunction-r.ensures.1 at_entry_lem.requires.1) at_r.in-Done.is
+    (λ e. c.if-level_at-ne-DISJUNCTION.true (c.level_at.ensures.0 ∙ e))
 
 disjunction_add_conjunction : (t : ℕ) → disjunction-lts.Need-overflow_add-f (claims_disjunction t)
     (disjunction_at t) disjunction.Post disjunction_Inv_loop disjunction_μ_loop
 disjunction_add_conjunction t c =
-    let h = c.level_at.ensures.1 (omega (arith, c.if-mark_at-m.false)) in
+    let h = c.level_at.ensures.1 (omega (arith, c.if-level_at-ne-DISJUNCTION.false)) in
     omega arith
 
 disjunction_conjunction_requires_2 : (t : ℕ) → disjunction-lts.Need-conjunction-r-requires-in-loop-r (claims_disjunction t)
     (disjunction_at t) disjunction.Post disjunction_Inv_loop disjunction_μ_loop
 disjunction_conjunction_requires_2 t c κs =
-    let h = c.level_at.ensures.1 (omega (arith, c.if-mark_at-m.false)) in
-    let u = so_far c.args.out.now c.loop-r.invariant c.conjunction-r.ensures.0
-    c.conjunction-r.ensures.1 c.requires.1 in
-    let w = level_ahead _ _ _ u c.in-Done.is in
-    (omega (arith, c.requires.0), (next_room _ _ _ u c.in-Done.is, (u.few, u.kept)))
+    let at_level_at = c in
+    let at_r = at_level_at in
+    let at_loop = at_r in
+    let at_conjunction = at_loop in
+    let at_entry_lem = at_conjunction in
+    let h = at_level_at.level_at.ensures.1 (omega (arith, c.if-level_at-ne-DISJUNCTION.false)) in
+    let u = so_far at_entry_lem.args.out.now at_loop.loop-r.invariant at_conjunction.conjunction-r.ensures.0
+    at_conjunction.conjunction-r.ensures.1 at_entry_lem.requires.1 in
+    let w = level_ahead _ _ _ u at_r.in-Done.is in
+    (omega (arith, at_entry_lem.requires.0), (next_room _ _ _ u at_r.in-Done.is, (u.few, u.kept)))
 
 disjunction_mul_close : (t : ℕ) → disjunction-lts.Need-offset_bounds-ts-f (claims_disjunction t) (disjunction_at t)
     disjunction.Post disjunction_Inv_loop disjunction_μ_loop
 disjunction_mul_close t c =
-    let h = c.level_at.ensures.1 (omega (arith, c.if-mark_at-m.false)) in
-    omega (arith, c.requires.1.1.0)
+    let at_if1 = c in
+    let at_level_at = at_if1 in
+    let at_entry_lem = at_level_at in
+    let h = at_level_at.level_at.ensures.1 (omega (arith, at_if1.if-level_at-ne-DISJUNCTION.false)) in
+    omega (arith, at_entry_lem.requires.1.1.0)
 
 disjunction_shared_slice_read_close : (t : ℕ) → disjunction-lts.Need-bounds-ts-f (claims_disjunction t)
     (disjunction_at t) disjunction.Post disjunction_Inv_loop disjunction_μ_loop
 disjunction_shared_slice_read_close t c =
-    c.level_at.ensures.1 (omega (arith, c.if-mark_at-m.false))
+    let at_if1 = c in
+    at_if1.level_at.ensures.1 (omega (arith, at_if1.if-level_at-ne-DISJUNCTION.false))
 
 disjunction_cast_close : (t : ℕ) → disjunction-lts.Need-overflow_cast-ts (claims_disjunction t) (disjunction_at t)
     disjunction.Post disjunction_Inv_loop disjunction_μ_loop
@@ -930,31 +1140,45 @@ disjunction_cast_close t c = omega arith
 disjunction_close_requires : (t : ℕ) → disjunction-lts.Need-close-r-requires (claims_disjunction t) (disjunction_at t)
     disjunction.Post disjunction_Inv_loop disjunction_μ_loop
 disjunction_close_requires t c κs =
-    let long = c.conjunction-r-in-loop-r.ensures.1.1 in (
-      level_closable _ _ _ (so_far c.args.out.now c.loop-r.invariant
-          c.conjunction-r.ensures.0 c.conjunction-r.ensures.1 c.requires.1)
-          c.in-Done.is c.conjunction-r-in-loop-r.result c.conjunction-r-in-loop-r.new.1.1.0 long
-          c.conjunction-r-in-loop-r.ensures.1.0,
+    let at_conjunction2 = c in
+    let at_r = at_conjunction2 in
+    let at_loop = at_r in
+    let at_conjunction = at_loop in
+    let at_entry_lem = at_conjunction in
+    let long = at_conjunction2.conjunction-r-in-loop-r.ensures.1.1 in (
+      level_closable _ _ _ (so_far at_entry_lem.args.out.now at_loop.loop-r.invariant
+          at_conjunction.conjunction-r.ensures.0 at_conjunction.conjunction-r.ensures.1 at_entry_lem.requires.1)
+          at_r.in-Done.is at_conjunction2.conjunction-r-in-loop-r.result at_conjunction2.conjunction-r-in-loop-r.new.out long
+          at_conjunction2.conjunction-r-in-loop-r.ensures.1.0,
       omega arith,
     )
 
 disjunction_loop_less : (t : ℕ) → disjunction-lts.Need-loop-r-smaller (claims_disjunction t) (disjunction_at t)
     disjunction.Post disjunction_Inv_loop disjunction_μ_loop
 disjunction_loop_less t c =
-    let h = c.level_at.ensures.1 (omega (arith, c.if-mark_at-m.false)) in
-    level_less (length c.args.ts.now) _ _ _ c.loop-r.r-1 c.conjunction-r-in-loop-r.result
-    c.close-r.result c.in-Done.is h c.conjunction-r-in-loop-r.ensures.1.0 c.close-r.ensures.0
+    let at_conjunction2 = c in
+    let at_if1 = at_conjunction2 in
+    let at_r = at_if1 in
+    let at_loop = at_r in
+    let at_entry_lem = at_loop in
+    let h = at_if1.level_at.ensures.1 (omega (arith, at_if1.if-level_at-ne-DISJUNCTION.false)) in
+    level_less (length at_entry_lem.args.ts.now) _ _ _ at_loop.loop-r.r at_conjunction2.conjunction-r-in-loop-r.result
+    c.close-r.result at_r.in-Done.is h at_conjunction2.conjunction-r-in-loop-r.ensures.1.0 c.close-r.ensures.0
 
 disjunction_loop_again : (t : ℕ) → disjunction-lts.Need-loop-r-preserved (claims_disjunction t) (disjunction_at t)
     disjunction.Post disjunction_Inv_loop disjunction_μ_loop
 disjunction_loop_again t c o u =
-    let h = c.level_at.ensures.1 (omega (arith, c.if-mark_at-m.false)) in
-    let long = c.conjunction-r-in-loop-r.ensures.1.1 in
-    level_turn _ _ _ (c.loop-r.invariant o u) c.in-Done.is
-    c.conjunction-r-in-loop-r.result c.conjunction-r-in-loop-r.new.1.1.0
-    (sym c.level_at.ensures.0 ∙ c.if-mark_at-m.false) h c.conjunction-r-in-loop-r.ensures.0
-    c.conjunction-r-in-loop-r.ensures.1.0 long c.close-r.result c.close-r.new.1.1.1.1.0
-    c.close-r.ensures.0 c.close-r.ensures.1 (c.close-r.auto.1.1.1.1.0 ∙ long)
+    let at_conjunction2 = c in
+    let at_if1 = at_conjunction2 in
+    let at_level_at = at_if1 in
+    let at_r = at_level_at in
+    let h = at_level_at.level_at.ensures.1 (omega (arith, at_if1.if-level_at-ne-DISJUNCTION.false)) in
+    let long = at_conjunction2.conjunction-r-in-loop-r.ensures.1.1 in
+    level_turn _ _ _ (at_r.loop-r.invariant o u) at_r.in-Done.is
+    at_conjunction2.conjunction-r-in-loop-r.result at_conjunction2.conjunction-r-in-loop-r.new.out
+    (sym at_level_at.level_at.ensures.0 ∙ at_if1.if-level_at-ne-DISJUNCTION.false) h at_conjunction2.conjunction-r-in-loop-r.ensures.0
+    at_conjunction2.conjunction-r-in-loop-r.ensures.1.0 long c.close-r.result c.close-r.new.out
+    c.close-r.ensures.0 c.close-r.ensures.1 (c.close-r.auto.out ∙ long)
 
 pub +argument_choice_conjunction_disjunction_equality_operand_ordering_product_sum_spec : {M : Type 1} → statement M
 +argument_choice_conjunction_disjunction_equality_operand_ordering_product_sum_spec =
