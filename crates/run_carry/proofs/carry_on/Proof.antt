@@ -1,6 +1,6 @@
 -- The filling leaves the stack's depth, and a stretch that fits lies within 4,096, so that the instructions may run;
 -- each return is one branch of the definition.
-use Rattle.lib_base.proofs.Prelude.{ℕ, ◌≤◌, ◌≡◌, ◌∙◌, sym, true, false, Bool, List, not-true, not-false, rules, arith}
+use Rattle.lib_base.proofs.Prelude.{ℕ, ◌≤◌, ◌≡◌, ◌∙◌, sym, true, false, Bool, List, rules, arith}
 use Rattle.lib_word.specs.Word.{get}
 use Rattle.spec_language.specs.Refusals as refusals
 use Rattle.format_layout.specs.Layout.{passives_start, passives_length}
@@ -26,30 +26,26 @@ module _ (old t l m₀ : List ℕ) {m : List ℕ} {k n : ℕ} {x : Bool} (e : m 
   unfolding carry_on worked_out
   inside h g = rw (← p, ← q, ← e, ← f, h) g
 
--- back from the test of the code to the values filled in
-abbrev fill_at_law : tie.After-code_fits → tie.After-fill
-fill_at_law c = c.before.before.before.before.before
-
 execute_from_requires : tie.Need-execute_from-requires
 execute_from_requires c κs =
-    let fits = c.before.before in
-    let s = shallow _ _ _ _ (fill_at_law fits).fill.ensures
-    (fill_at_law fits).before.before.before.before.before.before.requires.1 in
-    let b = code_bound _ _ (sym fits.code_fits.ensures ∙ not-false _ c.before.if-not-code_fits.false) in
+    let fits = c in
+    let s = shallow _ _ _ _ fits.fill.ensures
+    fits.requires.1 in
+    let b = code_bound _ _ (sym fits.code_fits.ensures ∙ c.if-not-code_fits.false) in
     search rules
 
 returns : tie.Need-returns-then-not-code_fits
 returns c =
-    let fits = c.before in
-    outside _ _ _ _ (fill_at_law fits).fill.ensures fits.before.before.get_word-start.ensures
-    fits.before.get_word-length.ensures fits.code_fits.ensures (not-true _ c.if-not-code_fits.true)
+    let fits = c in
+    outside _ _ _ _ fits.fill.ensures fits.get_word-start.ensures
+    fits.get_word-length.ensures fits.code_fits.ensures c.if-not-code_fits.true
 
 returns_2 : tie.Need-returns
 returns_2 c =
-    let fits = c.before.before.before.before.before in
-    inside _ _ _ _ (fill_at_law fits).fill.ensures fits.before.before.get_word-start.ensures
-    fits.before.get_word-length.ensures fits.code_fits.ensures
-    (not-false _ c.before.before.before.before.if-not-code_fits.false) c.before.before.execute_from.ensures
+    let fits = c in
+    inside _ _ _ _ fits.fill.ensures fits.get_word-start.ensures
+    fits.get_word-length.ensures fits.code_fits.ensures
+    c.if-not-code_fits.false c.execute_from.ensures
 
 pub carry_on_spec : {M : Type 1} → statement M
 carry_on_spec =

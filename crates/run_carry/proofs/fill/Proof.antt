@@ -39,11 +39,11 @@ fill_spec =
     decreases-loop
     (λ c. start _ _ _ _)
     (λ c κs. search rules)
-    (λ c κs. let g = c.before.before.before.loop-i.invariant.long in search rules)
+    (λ c κs. let g = c.loop-i.invariant.long in search rules)
     (λ c. omega arith)
     (λ c. omega arith)
     (λ c.
-    turn c.before.before.before.before.before.before.loop-i.invariant (omega arith) c.before.before.before.before.value_for-value.ensures
-    c.before.before.fill_at.ensures)
-    (λ c. c.before.loop-i.invariant.long)
-    (λ c. end c.before.loop-i.invariant (omega arith)))
+    turn c.loop-i.invariant (omega arith) c.value_for-value.ensures
+    c.fill_at.ensures)
+    (λ c. c.loop-i.invariant.long)
+    (λ c. end c.loop-i.invariant (omega arith)))

@@ -1,5 +1,5 @@
 -- Each return is one branch of the definition, over what was read.
-use Rattle.lib_base.proofs.Prelude.{ℕ, ◌+◌, ◌≡◌, true, false, Bool, List, not-true, not-false, rules}
+use Rattle.lib_base.proofs.Prelude.{ℕ, ◌+◌, ◌≡◌, true, false, Bool, List, rules}
 use Rattle.lib_word.specs.Word.{get}
 use Rattle.run_carry.specs.Carry.{active_in_table, kept_or_fresh, value_for}
 use Rattle.run_carry.proofs.value_for.Statement.{statement}
@@ -25,9 +25,9 @@ value_for_spec =
     (λ c. search rules)
     (λ c κs. search rules)
     (λ c κs. search rules)
-    (λ c. not_before _ _ _ _ c.before.is_active.ensures (not-true _ c.if-not-is_active.true) c.before.before.get_word-start.ensures)
+    (λ c. not_before _ _ _ _ c.is_active.ensures c.if-not-is_active.true c.get_word-start.ensures)
     (λ c κs. search rules)
-    (λ c. not_now _ _ _ _ c.before.before.before.is_active.ensures (not-false _ c.before.before.if-not-is_active.false) c.before.is_active-2.ensures (not-true _ c.if-not-is_active-2.true) c.before.before.before.before.get_word-start.ensures)
+    (λ c. not_now _ _ _ _ c.is_active.ensures c.if-not-is_active.false c.is_active-2.ensures c.if-not-is_active-2.true c.get_word-start.ensures)
     (λ c. search rules)
     (λ c κs. search rules)
-    (λ c. in_both _ _ _ _ c.before.before.before.before.is_active.ensures (not-false _ c.before.before.before.if-not-is_active.false) c.before.before.is_active-2.ensures (not-false _ c.before.if-not-is_active-2.false) c.get_word.ensures))
+    (λ c. in_both _ _ _ _ c.is_active.ensures c.if-not-is_active.false c.is_active-2.ensures c.if-not-is_active-2.false c.get_word.ensures))
