@@ -13,4 +13,4 @@ cell_at_spec =
     (λ c.
     let at_entry_lem = c.before.before in
     (refl, all_at_or (λ k. k ≤ 64) at_entry_lem.args.firsts.now at_entry_lem.args.i 0 at_entry_lem.requires (omega arith)))
-    (λ c. (sym (List·getD-eq-default c.before.args.firsts.now 0 c.if1.false), omega arith)))
+    (λ c. (sym (List·getD-eq-default c.before.args.firsts.now 0 c.if-i-firsts.false), omega arith)))

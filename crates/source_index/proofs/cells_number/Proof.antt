@@ -9,8 +9,8 @@ cells_number_spec =
     (tie.spec
     (λ c. search rules)
     (λ c. search rules)
-    (λ c. (rw (lt-ltb (c.before.args.next - c.before.args.first) 2 (omega (arith, c.if1.true))), omega (arith, c.before.requires)))
+    (λ c. (rw (lt-ltb (c.before.args.next - c.before.args.first) 2 (omega (arith, c.if-next-first.true))), omega (arith, c.before.requires)))
     (λ c. search rules)
     (λ c. search rules)
     (λ c. search rules)
-    (λ c. (rw (le-ltb (c.before.args.next - c.before.args.first) 2 (omega (arith, c.if1.false))), omega (arith, c.before.requires))))
+    (λ c. (rw (le-ltb (c.before.args.next - c.before.args.first) 2 (omega (arith, c.if-next-first.false))), omega (arith, c.before.requires))))

@@ -7,7 +7,7 @@ pub meaning_number_spec : {M : Type 1} → statement M
 meaning_number_spec =
     tie.close
     (tie.spec
-    (λ c. (rw (lt-ltb c.before.before.args.j c.before.before.args.params c.if1.true), omega (arith, c.before.before.requires.0)))
+    (λ c. (rw (lt-ltb c.before.before.args.j c.before.before.args.params c.if-j-params.true), omega (arith, c.before.before.requires.0)))
     (λ c κs. search rules)
     (λ c. search rules)
     (λ c κs. search rules)
@@ -17,10 +17,10 @@ meaning_number_spec =
     let at_first = at_next.before in
     let at_entry_lem = at_first.before.before.before in (
       rw (
-        le-ltb at_entry_lem.args.j at_entry_lem.args.params at_first.before.if1.false,
-        ← at_first.Cell-at.ensures.0,
+        le-ltb at_entry_lem.args.j at_entry_lem.args.params at_first.before.if-j-params.false,
+        ← at_first.cell_at-first.ensures.0,
         ← add-one (at_entry_lem.args.j - at_entry_lem.args.params),
-        ← at_next.cell-at2.ensures.0,
-      ) c.cells-number.ensures.0,
-      c.cells-number.ensures.1,
+        ← at_next.cell_at-next.ensures.0,
+      ) c.cells_number.ensures.0,
+      c.cells_number.ensures.1,
     )))
