@@ -4,42 +4,32 @@ use Rattle.source_declarations.proofs.Parameters.{default_none, default_bad, def
 use Rattle.source_declarations.proofs.default_at.Statement.{statement}
 use Rattle.source_declarations.proofs.default_at.Tie as tie
 
-returns : tie.Need-returns
+returns : tie.Need-returns-in_default
 returns c =
-    let at_sign = c.before.before in
-    let at_entry_lem = at_sign.before.before in (
-      default_none at_entry_lem.args.text.now at_entry_lem.args.q at_entry_lem.args.at _ _ at_sign.sign-due.ensures.0 c.enum_told.given.1,
+    (
+      default_none c.args.text.now c.args.q c.args.at _ _ c.sign_due-equals.ensures.0 c.in_default.is,
       (omega arith, omega arith),
     )
 
-value_at_requires : tie.Need-value-at-requires
+value_at_requires : tie.Need-value_at-value-requires
 value_at_requires c κs =
-    let at_equals = c.before in
-    let inside = rw at_equals.equals.given.1 at at_equals.before.before.sign-due.ensures.1 in
+    let inside = rw c.in-Found.is at c.sign_due-equals.ensures.1 in
     (omega arith, omega arith)
 
-returns_2 : tie.Need-returns-2
+returns_2 : tie.Need-returns-in_default-value
 returns_2 c =
-    let at_value = c.before.before in
-    let at_equals = at_value.before.before in
-    let at_sign = at_equals.before.before in
-    let at_entry_lem = at_sign.before.before in (
-      default_bad at_entry_lem.args.text.now at_entry_lem.args.q at_entry_lem.args.at _ _ _ _ _ _ at_sign.sign-due.ensures.0
-          at_equals.equals.given.1 at_value.value_at_law.ensures.0 c.enum-told2.given.1,
-      rw c.enum-told2.given.1 tt,
+    (
+      default_bad c.args.text.now c.args.q c.args.at _ _ _ _ _ _ c.sign_due-equals.ensures.0
+          c.in-Found.is c.value_at-value.ensures.0 c.in_default-value.field-0.1,
+      rw c.in_default-value.field-0.1 tt,
     )
 
-returns_3 : tie.Need-returns-3
+returns_3 : tie.Need-returns
 returns_3 c =
-    let at_to = c.before in
-    let at_value = at_to.before.before in
-    let at_equals = at_value.before.before in
-    let at_sign = at_equals.before.before in
-    let at_entry_lem = at_sign.before.before in
-    let first = rw at_equals.equals.given.1 at at_sign.sign-due.ensures.1 in
-    let second = rw at_to.value.given.1 at at_value.value_at_law.ensures.1 in (
-      default_good at_entry_lem.args.text.now at_entry_lem.args.q at_entry_lem.args.at _ _ _ _ _ _ _ _ at_sign.sign-due.ensures.0
-          at_equals.equals.given.1 at_value.value_at_law.ensures.0 at_to.value.given.1,
+    let first = rw c.in-Found.is at c.sign_due-equals.ensures.1 in
+    let second = rw c.in-Found-value.is at c.value_at-value.ensures.1 in (
+      default_good c.args.text.now c.args.q c.args.at _ _ _ _ _ _ _ _ c.sign_due-equals.ensures.0
+          c.in-Found.is c.value_at-value.ensures.0 c.in-Found-value.is,
       (omega arith, omega arith),
     )
 

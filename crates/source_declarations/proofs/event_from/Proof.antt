@@ -4,53 +4,44 @@ use Rattle.source_declarations.proofs.Events.{event_crowded, event_unnamed, even
 use Rattle.source_declarations.proofs.event_from.Statement.{statement}
 use Rattle.source_declarations.proofs.event_from.Tie as tie
 
-returns : tie.Need-returns
+returns : tie.Need-returns-then-count-ge-EVENTS
 returns c =
-    let a = c.before.before.before.before.args in
-    (event_crowded a.text.now a.events.now a.p a.at a.count _ c.before.if1.true c.fault-word.ensures, tt)
+    let a = c.args in
+    (event_crowded a.text.now a.events.now a.p a.at a.count _ c.if-count-ge-EVENTS.true c.fault_word.ensures, tt)
 
-returns_2 : tie.Need-returns-2
+returns_2 : tie.Need-returns-in_default
 returns_2 c =
-    let at_name = c.before.before.before in
-    let a = at_name.before.before.before.before.args in (
-      event_unnamed a.text.now a.events.now a.p a.at a.count _ _ _ at_name.before.if1.false at_name.name-due.ensures.0
-          c.before.enum_told.given.1 c.fault_in_law.ensures,
+    let a = c.args in (
+      event_unnamed a.text.now a.events.now a.p a.at a.count _ _ _ c.if-count-ge-EVENTS.false c.name_due-name.ensures.0
+          c.in_default.is c.fault_in.ensures,
       tt,
     )
 
-fault_word_requires_2 : tie.Need-fault-word-requires-2
+fault_word_requires_2 : tie.Need-fault_word-requires-then-is_among
 fault_word_requires_2 c κs =
-    let at_found = c.before.before.before in
-    let inside = rw at_found.name.given.1 at at_found.before.before.name-due.ensures.1 in
+    let inside = rw c.in-Found.is at c.name_due-name.ensures.1 in
     (omega arith, omega arith)
 
-returns_3 : tie.Need-returns-3
+returns_3 : tie.Need-returns-then-is_among
 returns_3 c =
-    let at_among = c.before.before in
-    let at_found = at_among.before.before in
-    let at_name = at_found.before.before in
-    let a = at_name.before.before.before.before.args in (
-      event_twice a.text.now a.events.now a.p a.at a.count _ _ _ _ _ _ at_name.before.if1.false at_name.name-due.ensures.0
-          at_found.name.given.1 at_among.is_among.ensures c.before.if2.true c.fault-word2.ensures,
+    let a = c.args in (
+      event_twice a.text.now a.events.now a.p a.at a.count _ _ _ _ _ _ c.if-count-ge-EVENTS.false c.name_due-name.ensures.0
+          c.in-Found.is c.is_among.ensures c.if-is_among.true c.fault_word-then-is_among.ensures,
       tt,
     )
 
-ranked_at_requires : tie.Need-ranked-at-requires
+ranked_at_requires : tie.Need-ranked_at-requires
 ranked_at_requires c κs =
-    let at_found = c.before.before.before in
-    let inside = rw at_found.name.given.1 at at_found.before.before.name-due.ensures.1 in
+    let inside = rw c.in-Found.is at c.name_due-name.ensures.1 in
     (omega arith, omega arith)
 
-returns_4 : tie.Need-returns-4
+returns_4 : tie.Need-returns
 returns_4 c =
-    let at_among = c.before.before in
-    let at_found = at_among.before.before in
-    let at_name = at_found.before.before in
-    let a = at_name.before.before.before.before.args in (
-      event_new a.text.now a.events.now a.p a.at a.count _ _ _ _ _ c.ranked-at.result at_name.before.if1.false at_name.name-due.ensures.0
-          at_found.name.given.1 at_among.is_among.ensures c.before.if2.false c.ranked-at.ensures.0,
-      event_later (length a.text.now) a.at _ _ _ _ c.ranked-at.result at_name.name-due.ensures.1 at_found.name.given.1
-          c.ranked-at.ensures.1,
+    let a = c.args in (
+      event_new a.text.now a.events.now a.p a.at a.count _ _ _ _ _ c.ranked_at.result c.if-count-ge-EVENTS.false c.name_due-name.ensures.0
+          c.in-Found.is c.is_among.ensures c.if-is_among.false c.ranked_at.ensures.0,
+      event_later (length a.text.now) a.at _ _ _ _ c.ranked_at.result c.name_due-name.ensures.1 c.in-Found.is
+          c.ranked_at.ensures.1,
     )
 
 pub event_from_spec : {M : Type 1} → statement M

@@ -4,28 +4,24 @@ use Rattle.source_declarations.proofs.Players.{from_unsaid, from_said, rights_la
 use Rattle.source_declarations.proofs.from_at.Statement.{statement}
 use Rattle.source_declarations.proofs.from_at.Tie as tie
 
-returns : tie.Need-returns
+returns : tie.Need-returns-in_default
 returns c =
-    let at_sign = c.before.before in
-    let at_entry_lem = at_sign.before.before in (
-      from_unsaid at_entry_lem.args.text.now at_entry_lem.args.at _ _ at_sign.sign-due.ensures.0 c.enum_told.given.1,
+    (
+      from_unsaid c.args.text.now c.args.at _ _ c.sign_due-from.ensures.0 c.in_default.is,
       (omega arith, omega arith, omega arith),
     )
 
-players_at_requires : tie.Need-players-at-requires
+players_at_requires : tie.Need-players_at-requires
 players_at_requires c κs =
-    let at_from = c.before in
-    let inside = rw at_from.from.given.1 at at_from.before.before.sign-due.ensures.1 in
+    let inside = rw c.in-Found.is at c.sign_due-from.ensures.1 in
     (omega arith, omega arith)
 
-returns_2 : tie.Need-returns-2
+returns_2 : tie.Need-returns
 returns_2 c =
-    let at_from = c.before.before in
-    let at_sign = at_from.before.before in
-    let at_entry_lem = at_sign.before.before in (
-      from_said at_entry_lem.args.text.now at_entry_lem.args.at _ _ _ _ c.players-at.result at_sign.sign-due.ensures.0 at_from.from.given.1 c.players-at.ensures.0,
-      rights_later (length at_entry_lem.args.text.now) at_entry_lem.args.at _ _ _ _ c.players-at.result at_sign.sign-due.ensures.1
-          at_from.from.given.1 c.players-at.ensures.1,
+    (
+      from_said c.args.text.now c.args.at _ _ _ _ c.players_at.result c.sign_due-from.ensures.0 c.in-Found.is c.players_at.ensures.0,
+      rights_later (length c.args.text.now) c.args.at _ _ _ _ c.players_at.result c.sign_due-from.ensures.1
+          c.in-Found.is c.players_at.ensures.1,
     )
 
 pub from_at_spec : {M : Type 1} → statement M

@@ -4,54 +4,44 @@ use Rattle.source_declarations.proofs.Parameters.{parameter_crowded, parameter_u
 use Rattle.source_declarations.proofs.parameter_at.Statement.{statement}
 use Rattle.source_declarations.proofs.parameter_at.Tie as tie
 
-returns : tie.Need-returns
+returns : tie.Need-returns-then-count-ge-PARAMETERS
 returns c =
-    let at_entry_lem = c.before.before.before.before in
-    let a = at_entry_lem.args in
-    (parameter_crowded a.text.now a.names.now a.p a.at a.count _ c.before.if1.true c.fault-word.ensures, tt)
+    let a = c.args in
+    (parameter_crowded a.text.now a.names.now a.p a.at a.count _ c.if-count-ge-PARAMETERS.true c.fault_word.ensures, tt)
 
-returns_2 : tie.Need-returns-2
+returns_2 : tie.Need-returns-in_default
 returns_2 c =
-    let at_name = c.before.before in
-    let a = at_name.before.before.before.before.args in (
-      parameter_unnamed a.text.now a.names.now a.p a.at a.count _ _ at_name.before.if1.false at_name.name-due.ensures.0
-          c.enum_told.given.1,
-      rw c.enum_told.given.1 tt,
+    let a = c.args in (
+      parameter_unnamed a.text.now a.names.now a.p a.at a.count _ _ c.if-count-ge-PARAMETERS.false c.name_due-name.ensures.0
+          c.in_default.is,
+      rw c.in_default.is tt,
     )
 
-fault_word_requires_2 : tie.Need-fault-word-requires-2
+fault_word_requires_2 : tie.Need-fault_word-requires-then-is_among
 fault_word_requires_2 c κs =
-    let at_found = c.before.before.before in
-    let inside = rw at_found.name.given.1 at at_found.before.before.name-due.ensures.1 in
+    let inside = rw c.in-Found.is at c.name_due-name.ensures.1 in
     (omega arith, omega arith)
 
-returns_3 : tie.Need-returns-3
+returns_3 : tie.Need-returns-then-is_among
 returns_3 c =
-    let at_among = c.before.before in
-    let at_found = at_among.before.before in
-    let at_name = at_found.before.before in
-    let a = at_name.before.before.before.before.args in (
-      parameter_twice a.text.now a.names.now a.p a.at a.count _ _ _ _ _ _ at_name.before.if1.false at_name.name-due.ensures.0
-          at_found.name.given.1 at_among.is_among.ensures c.before.if2.true c.fault-word2.ensures,
+    let a = c.args in (
+      parameter_twice a.text.now a.names.now a.p a.at a.count _ _ _ _ _ _ c.if-count-ge-PARAMETERS.false c.name_due-name.ensures.0
+          c.in-Found.is c.is_among.ensures c.if-is_among.true c.fault_word-then-is_among.ensures,
       tt,
     )
 
-default_at_requires : tie.Need-default-at-requires
+default_at_requires : tie.Need-default_at-requires
 default_at_requires c κs =
-    let at_found = c.before.before.before in
-    let inside = rw at_found.name.given.1 at at_found.before.before.name-due.ensures.1 in
+    let inside = rw c.in-Found.is at c.name_due-name.ensures.1 in
     (omega arith, omega arith)
 
-returns_4 : tie.Need-returns-4
+returns_4 : tie.Need-returns
 returns_4 c =
-    let at_among = c.before.before in
-    let at_found = at_among.before.before in
-    let at_name = at_found.before.before in
-    let a = at_name.before.before.before.before.args in (
-      parameter_new a.text.now a.names.now a.p a.at a.count _ _ _ _ _ c.default-at.result at_name.before.if1.false at_name.name-due.ensures.0
-          at_found.name.given.1 at_among.is_among.ensures c.before.if2.false c.default-at.ensures.0,
-      parameter_later (length a.text.now) a.at _ _ _ _ c.default-at.result at_name.name-due.ensures.1 at_found.name.given.1
-          c.default-at.ensures.1,
+    let a = c.args in (
+      parameter_new a.text.now a.names.now a.p a.at a.count _ _ _ _ _ c.default_at.result c.if-count-ge-PARAMETERS.false c.name_due-name.ensures.0
+          c.in-Found.is c.is_among.ensures c.if-is_among.false c.default_at.ensures.0,
+      parameter_later (length a.text.now) a.at _ _ _ _ c.default_at.result c.name_due-name.ensures.1 c.in-Found.is
+          c.default_at.ensures.1,
     )
 
 pub parameter_at_spec : {M : Type 1} → statement M

@@ -4,53 +4,43 @@ use Rattle.source_declarations.proofs.Players.{players_numbered, players_named, 
 use Rattle.source_declarations.proofs.players_at.Statement.{statement}
 use Rattle.source_declarations.proofs.players_at.Tie as tie
 
-fault_word_requires : tie.Need-fault-word-requires
+fault_word_requires : tie.Need-fault_word-requires
 fault_word_requires c κs =
-    let at_t = c.before in
-    let inside = rw at_t.t.given.1 at at_t.before.before.token-at.ensures.1 in
+    let inside = rw c.in-Name.is at c.token_at-t.ensures.1 in
     (omega arith, omega arith)
 
-fault_word_requires_2 : tie.Need-fault-word-requires-2
+fault_word_requires_2 : tie.Need-fault_word-requires-then-c-ne-NOBODY
 fault_word_requires_2 c κs =
-    let at_t = c.before.before in
-    let inside = rw at_t.t2.given.1 at at_t.before.before.token-at.ensures.1 in
+    let inside = rw c.in-Sign.is at c.token_at-t.ensures.1 in
     (omega arith, omega arith)
 
-returns : tie.Need-returns
+returns : tie.Need-returns-then-c-ne-NOBODY
 returns c =
-    let at_t = c.before.before.before in
-    let at_token = at_t.before.before in
-    let at_entry_lem = at_token.before.before in (
-      players_other at_entry_lem.args.text.now at_entry_lem.args.at _ _ _ _ _ at_token.token-at.ensures.0 at_t.t2.given.1 c.before.if1.true
-          c.fault-word2.ensures,
+    (
+      players_other c.args.text.now c.args.at _ _ _ _ _ c.token_at-t.ensures.0 c.in-Sign.is c.if-c-ne-NOBODY.true
+          c.fault_word-then-c-ne-NOBODY.ensures,
       tt,
     )
 
-returns_2 : tie.Need-returns-2
+returns_2 : tie.Need-returns-in-Number
 returns_2 c =
-    let at_token = c.before.before.before in
-    let at_entry_lem = at_token.before.before in (
-      players_numbered at_entry_lem.args.text.now at_entry_lem.args.at _ _ _ _ c.more_players_law.result at_token.token-at.ensures.0 c.before.enum_told.given.1
-          c.more_players_law.ensures.0,
-      c.more_players_law.ensures.1,
+    (
+      players_numbered c.args.text.now c.args.at _ _ _ _ c.more_players.result c.token_at-t.ensures.0 c.in-Number.is
+          c.more_players.ensures.0,
+      c.more_players.ensures.1,
     )
 
-returns_3 : tie.Need-returns-3
+returns_3 : tie.Need-returns-in-Name
 returns_3 c =
-    let at_t = c.before.before in
-    let at_token = at_t.before.before in
-    let at_entry_lem = at_token.before.before in (
-      players_named at_entry_lem.args.text.now at_entry_lem.args.at _ _ _ _ at_token.token-at.ensures.0 at_t.t.given.1 c.fault-word.ensures,
+    (
+      players_named c.args.text.now c.args.at _ _ _ _ c.token_at-t.ensures.0 c.in-Name.is c.fault_word.ensures,
       tt,
     )
 
-returns_4 : tie.Need-returns-4
+returns_4 : tie.Need-returns-else-c-ne-NOBODY
 returns_4 c =
-    let at_t = c.before.before in
-    let at_token = at_t.before.before in
-    let at_entry_lem = at_token.before.before in
-    let inside = rw at_t.t2.given.1 at at_token.token-at.ensures.1 in (
-      players_nobody at_entry_lem.args.text.now at_entry_lem.args.at _ _ _ _ at_token.token-at.ensures.0 at_t.t2.given.1 c.if1.false,
+    let inside = rw c.in-Sign.is at c.token_at-t.ensures.1 in (
+      players_nobody c.args.text.now c.args.at _ _ _ _ c.token_at-t.ensures.0 c.in-Sign.is c.if-c-ne-NOBODY.false,
       (omega arith, omega arith, omega arith),
     )
 

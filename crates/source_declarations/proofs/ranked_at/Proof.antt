@@ -4,87 +4,78 @@ use Rattle.source_declarations.proofs.Events.{ranked_unsaid, ranked_unnumbered, 
 use Rattle.source_declarations.proofs.ranked_at.Statement.{statement}
 use Rattle.source_declarations.proofs.ranked_at.Tie as tie
 
-returns : tie.Need-returns
+returns : tie.Need-returns-in_default
 returns c =
-    let at_sign = c.before.before.before in
-    let a = at_sign.before.before.args in (
-      ranked_unsaid a.text.now a.q a.at _ _ _ at_sign.sign-due.ensures.0 c.before.enum_told.given.1 c.fault_in_law.ensures,
+    let a = c.args in (
+      ranked_unsaid a.text.now a.q a.at _ _ _ c.sign_due-word.ensures.0 c.in_default.is c.fault_in.ensures,
       tt,
     )
 
-number_due_requires : tie.Need-number-due-requires
+number_due_requires : tie.Need-number_due-rank-requires
 number_due_requires c κs =
-    let at_word = c.before in
-    let inside = rw at_word.word.given.1 at at_word.before.before.sign-due.ensures.1 in
+    let inside = rw c.in-Found.is at c.sign_due-word.ensures.1 in
     (omega arith, (omega arith, omega arith))
 
 -- where the rank is read, and its word
-module _ (c : tie.After-number-due) where
-  abbrev word_at : tie.After-word
+module _ (c : tie.After-number_due-rank) where
+  abbrev word_at : tie.In-Found-2
   word_at = c.before.before
 
-  abbrev sign_at : tie.After-sign-due
+  abbrev sign_at : tie.After-sign_due-word
   sign_at = word_at.before.before
 
-returns_2 : tie.Need-returns-2
+returns_2 : tie.Need-returns-in_default-rank
 returns_2 c =
-    let call = c.before.before.before in
-    let a = (sign_at call).before.before.args in (
-      ranked_unnumbered a.text.now a.q a.at _ _ _ _ _ _ _ (sign_at call).sign-due.ensures.0 (word_at call).word.given.1
-          call.number-due.ensures.0 c.before.enum-told2.given.1 c.fault-in2.ensures,
+    let a = (sign_at c.before.before.before).args in (
+      ranked_unnumbered a.text.now a.q a.at _ _ _ _ _ _ _ (sign_at c.before.before.before).sign_due-word.ensures.0 (word_at c.before.before.before).in-Found.is
+          c.number_due-rank.ensures.0 c.in_default-rank.field-0.1 c.fault_in-in_default-rank.ensures,
       tt,
     )
 
-fault_word_requires : tie.Need-fault-word-requires
+fault_word_requires : tie.Need-fault_word-requires
 fault_word_requires c κs =
-    let at_rank = c.before.before in
-    let inside = rw at_rank.rank.given.1 at at_rank.before.before.number-due.ensures.1 in
+    let inside = rw c.in-Found-rank.is at c.number_due-rank.ensures.1 in
     (omega arith, omega arith)
 
-returns_3 : tie.Need-returns-3
+returns_3 : tie.Need-returns-then-n
 returns_3 c =
-    let at_rank = c.before.before.before in
-    let call = at_rank.before.before in
-    let a = (sign_at call).before.before.args in (
-      ranked_off a.text.now a.q a.at _ _ _ _ _ _ _ _ _ (sign_at call).sign-due.ensures.0 (word_at call).word.given.1
-          call.number-due.ensures.0 at_rank.rank.given.1 c.before.if1.true c.fault-word.ensures,
+    let a = (sign_at c.before.before.before.before.before).args in (
+      ranked_off a.text.now a.q a.at _ _ _ _ _ _ _ _ _ (sign_at c.before.before.before.before.before).sign_due-word.ensures.0 (word_at c.before.before.before.before.before).in-Found.is
+          c.number_due-rank.ensures.0 c.in-Found-rank.is c.if-n.true c.fault_word.ensures,
       tt,
     )
 
-from_at_requires : tie.Need-from-at-requires
+from_at_requires : tie.Need-from_at-rights-requires
 from_at_requires c κs =
-    let at_rank = c.before.before in
-    let inside = rw at_rank.rank.given.1 at at_rank.before.before.number-due.ensures.1 in
+    let inside = rw c.in-Found-rank.is at c.number_due-rank.ensures.1 in
     (omega arith, omega arith)
 
 -- where the players are read, and the rank before them
-module _ (c : tie.After-from-at) where
-  abbrev rank_at_law : tie.After-rank
+module _ (c : tie.After-from_at-rights) where
+  abbrev rank_at_law : tie.In-Found-rank-2
   rank_at_law = c.before.before.before
 
-  abbrev number_at : tie.After-number-due
+  abbrev number_at : tie.After-number_due-rank
   number_at = rank_at_law.before.before
 
-returns_4 : tie.Need-returns-4
+returns_4 : tie.Need-returns-in-Given
 returns_4 c =
-    let from = c.before.before.before in
-    let call = number_at from in
-    let a = (sign_at call).before.before.args in
-    let low = from.before.if1.false in (
-      ranked_sent a.text.now a.q a.at _ _ _ _ _ _ _ _ _ _ _ (sign_at call).sign-due.ensures.0 (word_at call).word.given.1
-          call.number-due.ensures.0 (rank_at_law from).rank.given.1 low from.from_at.ensures.0 c.before.rights.given.1,
-      ranked_within (length a.text.now) a.at _ _ _ _ _ _ _ _ _ _ _ (sign_at call).sign-due.ensures.1 (word_at call).word.given.1
-          call.number-due.ensures.1 (rank_at_law from).rank.given.1 from.from_at.ensures.1 c.before.rights.given.1 low,
+    let call = number_at c.before.before.before in
+    let a = (sign_at call).args in
+    let low = c.if-n.false in (
+      ranked_sent a.text.now a.q a.at _ _ _ _ _ _ _ _ _ _ _ (sign_at call).sign_due-word.ensures.0 (word_at call).in-Found.is
+          call.number_due-rank.ensures.0 (rank_at_law c.before.before.before).in-Found-rank.is low c.from_at-rights.ensures.0 c.in-Given.is,
+      ranked_within (length a.text.now) a.at _ _ _ _ _ _ _ _ _ _ _ (sign_at call).sign_due-word.ensures.1 (word_at call).in-Found.is
+          call.number_due-rank.ensures.1 (rank_at_law c.before.before.before).in-Found-rank.is c.from_at-rights.ensures.1 c.in-Given.is low,
     )
 
-returns_5 : tie.Need-returns-5
+returns_5 : tie.Need-returns-in-Fault
 returns_5 c =
-    let from = c.before.before.before in
-    let call = number_at from in
-    let a = (sign_at call).before.before.args in (
-      ranked_broken a.text.now a.q a.at _ _ _ _ _ _ _ _ _ _ (sign_at call).sign-due.ensures.0 (word_at call).word.given.1
-          call.number-due.ensures.0 (rank_at_law from).rank.given.1 from.before.if1.false from.from_at.ensures.0
-          c.before.rights2.given.1,
+    let call = number_at c.before.before.before in
+    let a = (sign_at call).args in (
+      ranked_broken a.text.now a.q a.at _ _ _ _ _ _ _ _ _ _ (sign_at call).sign_due-word.ensures.0 (word_at call).in-Found.is
+          call.number_due-rank.ensures.0 (rank_at_law c.before.before.before).in-Found-rank.is c.if-n.false c.from_at-rights.ensures.0
+          c.in-Fault.is,
       tt,
     )
 

@@ -4,48 +4,38 @@ use Rattle.source_declarations.proofs.Players.{seen_unsaid, seen_broken, seen_sa
 use Rattle.source_declarations.proofs.seen_at.Statement.{statement}
 use Rattle.source_declarations.proofs.seen_at.Tie as tie
 
-returns : tie.Need-returns
+returns : tie.Need-returns-in_default
 returns c =
-    let at_sign = c.before.before in
-    let at_entry_lem = at_sign.before.before in (
-      seen_unsaid at_entry_lem.args.text.now at_entry_lem.args.at _ _ at_sign.sign-due.ensures.0 c.enum_told.given.1,
+    (
+      seen_unsaid c.args.text.now c.args.at _ _ c.sign_due-seen.ensures.0 c.in_default.is,
       (omega arith, omega arith, omega arith),
     )
 
-sign_due_requires_2 : tie.Need-sign-due-requires-2
+sign_due_requires_2 : tie.Need-sign_due-by-requires
 sign_due_requires_2 c κs =
-    let at_seen = c.before in
-    let inside = rw at_seen.seen.given.1 at at_seen.before.before.sign-due.ensures.1 in
+    let inside = rw c.in-Found.is at c.sign_due-seen.ensures.1 in
     (omega arith, (omega arith, (omega arith, omega arith)))
 
-returns_2 : tie.Need-returns-2
+returns_2 : tie.Need-returns-in_default-by
 returns_2 c =
-    let at_by = c.before.before.before in
-    let at_seen = at_by.before.before in
-    let at_sign = at_seen.before.before in
-    let at_entry_lem = at_sign.before.before in (
-      seen_broken at_entry_lem.args.text.now at_entry_lem.args.at _ _ _ _ _ _ _ at_sign.sign-due.ensures.0 at_seen.seen.given.1
-          at_by.sign-due2.ensures.0 c.before.enum-told2.given.1 c.fault_in_law.ensures,
+    (
+      seen_broken c.args.text.now c.args.at _ _ _ _ _ _ _ c.sign_due-seen.ensures.0 c.in-Found.is
+          c.sign_due-by.ensures.0 c.in_default-by.field-0.1 c.fault_in.ensures,
       tt,
     )
 
-players_at_requires : tie.Need-players-at-requires
+players_at_requires : tie.Need-players_at-requires
 players_at_requires c κs =
-    let at_by = c.before in
-    let inside = rw at_by.by.given.1 at at_by.before.before.sign-due2.ensures.1 in
+    let inside = rw c.in-Found-by.is at c.sign_due-by.ensures.1 in
     (omega arith, omega arith)
 
-returns_3 : tie.Need-returns-3
+returns_3 : tie.Need-returns
 returns_3 c =
-    let at_by = c.before.before in
-    let at_sign2 = at_by.before.before in
-    let at_seen = at_sign2.before.before in
-    let at_sign = at_seen.before.before in
-    let at_entry_lem = at_sign.before.before in (
-      seen_said at_entry_lem.args.text.now at_entry_lem.args.at _ _ _ _ _ _ _ _ c.players-at.result at_sign.sign-due.ensures.0 at_seen.seen.given.1
-          at_sign2.sign-due2.ensures.0 at_by.by.given.1 c.players-at.ensures.0,
-      seen_later (length at_entry_lem.args.text.now) at_entry_lem.args.at _ _ _ _ _ _ _ _ c.players-at.result at_sign.sign-due.ensures.1
-          at_seen.seen.given.1 at_sign2.sign-due2.ensures.1 at_by.by.given.1 c.players-at.ensures.1,
+    (
+      seen_said c.args.text.now c.args.at _ _ _ _ _ _ _ _ c.players_at.result c.sign_due-seen.ensures.0 c.in-Found.is
+          c.sign_due-by.ensures.0 c.in-Found-by.is c.players_at.ensures.0,
+      seen_later (length c.args.text.now) c.args.at _ _ _ _ _ _ _ _ c.players_at.result c.sign_due-seen.ensures.1
+          c.in-Found.is c.sign_due-by.ensures.1 c.in-Found-by.is c.players_at.ensures.1,
     )
 
 pub seen_at_spec : {M : Type 1} → statement M
