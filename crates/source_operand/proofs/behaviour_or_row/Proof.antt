@@ -7,5 +7,5 @@ pub behaviour_or_row_spec : {M : Type 1} → statement M
 behaviour_or_row_spec =
     tie.close
     (tie.spec
-    (λ c. (rw (lt-ltb c.before.args.cells 2 c.if1.true), c.before.requires.0))
-    (λ c. (rw (le-ltb c.before.args.cells 2 c.if1.false), c.before.requires)))
+    (λ c. (rw (lt-ltb c.before.args.cells 2 c.if-cells-lt2.true), c.before.requires.0))
+    (λ c. (rw (le-ltb c.before.args.cells 2 c.if-cells-lt2.false), c.before.requires)))

@@ -15,10 +15,9 @@ cell_leaf_spec =
     (λ c κs. search rules)
     (λ c. search rules)
     (λ c κs.
-    let at_m = c.before in
-    let h = rw at_m.meaning3.given.1 at at_m.before.before.requires.0 in
-    (h.0, (h.1, at_m.before.before.requires.1.1)))
-    (λ c. rw c.before.enum_told.given.1 (c.fault-word.ensures, tt))
-    (λ c. rw c.before.before.meaning.given.1 (c.fault-word2.ensures, tt))
-    (λ c. rw c.before.before.meaning2.given.1 (c.fault-word3.ensures, tt))
-    (λ c. rw c.before.before.meaning3.given.1 c.row-cell.ensures))
+    let h = rw c.in-Row.is at c.requires.0 in
+    (h.0, (h.1, c.requires.1.1)))
+    (λ c. rw c.in-Nothing.is (c.fault_word.ensures, tt))
+    (λ c. rw c.in-Parameter.is (c.fault_word-in-Parameter.ensures, tt))
+    (λ c. rw c.in-Behaviour.is (c.fault_word-in-Behaviour.ensures, tt))
+    (λ c. rw c.in-Row.is c.row_cell.ensures))

@@ -12,26 +12,18 @@ cell_number_spec =
     (λ c. search rules)
     (λ c. search rules)
     (λ c.
-    let at_number = c.before.before in
-    (cell_unnumbered _ _ _ _ at_number.number-due.ensures.0 c.enum_told.given.1, at_number.number-due.ensures.1))
+    (cell_unnumbered _ _ _ _ c.number_due-number.ensures.0 c.in_default.is, c.number_due-number.ensures.1))
     (λ c κs.
-    let at_number = c.before in
-    let h = rw at_number.number.given.1 at at_number.before.before.number-due.ensures.1 in
+    let h = rw c.in-Found.is at c.number_due-number.ensures.1 in
     omega arith)
     (λ c. search rules)
     (λ c. search rules)
     (λ c.
-    let at_sign = c.before.before in
-    let at_number = at_sign.before.before in
-    let at_due = at_number.before.before in (
-      cell_unclosed _ _ _ _ _ _ _ _ at_due.number-due.ensures.0 at_number.number.given.1 at_sign.sign-due.ensures.0 c.enum-told2.given.1,
-      (let h = rw c.enum-told2.given.1 at at_sign.sign-due.ensures.1 in rw c.enum-told2.given.1 h),
+    (
+      cell_unclosed _ _ _ _ _ _ _ _ c.number_due-number.ensures.0 c.in-Found.is c.sign_due-bracket.ensures.0 c.in_default-bracket.field-0.1,
+      (let h = rw c.in_default-bracket.field-0.1 at c.sign_due-bracket.ensures.1 in rw c.in_default-bracket.field-0.1 h),
     ))
     (λ c.
-    let at_Bracket = c.before in
-    let at_sign = at_Bracket.before.before in
-    let at_number = at_sign.before.before in
-    let at_due = at_number.before.before in
-    let h = rw at_number.number.given.1 at at_due.number-due.ensures.1 in
-    let g = rw at_Bracket.bracket.given.1 at at_sign.sign-due.ensures.1 in
-    (cell_numbered _ _ _ _ _ _ _ _ _ _ at_due.number-due.ensures.0 at_number.number.given.1 at_sign.sign-due.ensures.0 at_Bracket.bracket.given.1, omega arith)))
+    let h = rw c.in-Found.is at c.number_due-number.ensures.1 in
+    let g = rw c.in-Found-bracket.is at c.sign_due-bracket.ensures.1 in
+    (cell_numbered _ _ _ _ _ _ _ _ _ _ c.number_due-number.ensures.0 c.in-Found.is c.sign_due-bracket.ensures.0 c.in-Found-bracket.is, omega arith)))

@@ -5,24 +5,21 @@ use Rattle.source_operand.proofs.Short.{word_low, short_number, short_name}
 use Rattle.source_operand.proofs.first_token.Statement.{statement}
 use Rattle.source_operand.proofs.first_token.Tie as tie
 
-sub_t9 : tie.Need-overflow-sub-t9
+sub_t9 : tie.Need-overflow_sub-result
 sub_t9 c =
-    let at_if = c.before.before.before.before in
-    word_low _ (sym at_if.before.in-word.ensures ∙ not-false _ at_if.if1.false)
+    word_low _ (sym c.in_word.ensures ∙ not-false _ c.if-not-in_word.false)
 
-returns_3 : tie.Need-returns-3
+returns_3 : tie.Need-returns-then-b-le57
 returns_3 c =
-    let at_if = c.before.before.before.before in
-    let is = at_if.before.before.byte_at.ensures in
-    short_number _ _ (ap in_word (sym is) ∙ sym at_if.before.in-word.ensures ∙ not-false _ at_if.if1.false)
-    (ap in_word (sym c.before.before.before.byte-at2.ensures) ∙ sym c.before.before.in-word2.ensures ∙ c.before.if2.false) _ is c.if3.true
+    let is = c.byte_at-b.ensures in
+    short_number _ _ (ap in_word (sym is) ∙ sym c.in_word.ensures ∙ not-false _ c.if-not-in_word.false)
+    (ap in_word (sym c.byte_at.ensures) ∙ sym c.in_word-2.ensures ∙ c.if-in_word.false) _ is c.if-b-le57.true
 
-returns_4 : tie.Need-returns-4
+returns_4 : tie.Need-returns
 returns_4 c =
-    let at_if = c.before.before.before.before in
-    let is = at_if.before.before.byte_at.ensures in
-    short_name _ _ (ap in_word (sym is) ∙ sym at_if.before.in-word.ensures ∙ not-false _ at_if.if1.false)
-    (ap in_word (sym c.before.before.before.byte-at2.ensures) ∙ sym c.before.before.in-word2.ensures ∙ c.before.if2.false) (omega (arith, is, c.if3.false))
+    let is = c.byte_at-b.ensures in
+    short_name _ _ (ap in_word (sym is) ∙ sym c.in_word.ensures ∙ not-false _ c.if-not-in_word.false)
+    (ap in_word (sym c.byte_at.ensures) ∙ sym c.in_word-2.ensures ∙ c.if-in_word.false) (omega (arith, is, c.if-b-le57.false))
 
 pub first_token_spec : {M : Type 1} → statement M
 first_token_spec =

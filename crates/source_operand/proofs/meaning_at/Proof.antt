@@ -7,6 +7,6 @@ pub meaning_at_spec : {M : Type 1} → statement M
 meaning_at_spec =
     tie.close
     (tie.spec
-    (λ c. (rw (lt-ltb c.before.args.number 128 c.if1.true), c.if1.true))
+    (λ c. (rw (lt-ltb c.before.args.number 128 c.if-number-lt-CELL.true), c.if-number-lt-CELL.true))
     (λ c κs. omega arith)
-    (λ c. (rw (le-ltb c.before.before.args.number 128 c.before.if1.false) c.behaviour-or-row.ensures.0, c.behaviour-or-row.ensures.1)))
+    (λ c. (rw (le-ltb c.before.before.args.number 128 c.before.if-number-lt-CELL.false) c.behaviour_or_row.ensures.0, c.behaviour_or_row.ensures.1)))

@@ -14,14 +14,14 @@ meaning_of_spec =
     (λ c.
     let at_found = c.before in
     let a = at_found.before.before.before.before.args in
-    (rw (name_only a.text.now a.p, ← at_found.found_in.ensures, le-ltb at_found.found_in.result (length a.places.now) c.if1.true), tt))
+    (rw (name_only a.text.now a.p, ← at_found.found_in-j.ensures, le-ltb at_found.found_in-j.result (length a.places.now) c.if-places-j.true), tt))
     (λ c κs. search rules)
-    (λ c κs. c.number-in-list.ensures.1)
+    (λ c κs. c.number_in_list.ensures.1)
     (λ c.
     let at_number = c.before in
     let at_found = at_number.before.before in
     let a = at_found.before.before.before.before.args in (
-      rw (name_only a.text.now a.p, ← at_found.found_in.ensures, lt-ltb at_found.found_in.result (length a.places.now) at_number.before.if1.false)
-          (c.meaning-at.ensures.0 ∙ ap number_means at_number.number-in-list.ensures.0),
-      c.meaning-at.ensures.1,
+      rw (name_only a.text.now a.p, ← at_found.found_in-j.ensures, lt-ltb at_found.found_in-j.result (length a.places.now) at_number.before.if-places-j.false)
+          (c.meaning_at.ensures.0 ∙ ap number_means at_number.number_in_list.ensures.0),
+      c.meaning_at.ensures.1,
     )))

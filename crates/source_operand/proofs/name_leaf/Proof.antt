@@ -14,16 +14,13 @@ name_leaf_spec =
     (λ c. search rules)
     (λ c. search rules)
     (λ c. search rules)
-    (λ c. rw c.before.enum_told.given.1 (c.fault-word.ensures, tt))
+    (λ c. rw c.in-Nothing.is (c.fault_word.ensures, tt))
     (λ c.
-    let at_m = c.before in
-    let h = rw at_m.meaning.given.1 at at_m.before.before.requires.0 in
-    rw at_m.meaning.given.1 ((refl, omega arith), omega arith))
+    let h = rw c.in-Parameter.is at c.requires.0 in
+    rw c.in-Parameter.is ((refl, omega arith), omega arith))
     (λ c.
-    let at_m = c.before in
-    let h = rw at_m.meaning2.given.1 at at_m.before.before.requires.0 in
-    rw at_m.meaning2.given.1 ((refl, omega arith), omega arith))
+    let h = rw c.in-Behaviour.is at c.requires.0 in
+    rw c.in-Behaviour.is ((refl, omega arith), omega arith))
     (λ c.
-    let at_m = c.before in
-    let h = rw at_m.meaning3.given.1 at at_m.before.before.requires.0 in
-    rw at_m.meaning3.given.1 ((refl, omega arith), omega arith)))
+    let h = rw c.in-Row.is at c.requires.0 in
+    rw c.in-Row.is ((refl, omega arith), omega arith)))

@@ -13,4 +13,4 @@ number_in_list_spec =
     (λ c.
     let at_entry_lem = c.before.before in
     (refl, all_at_or (λ m. m < 8320) at_entry_lem.args.meanings.now at_entry_lem.args.i 0 at_entry_lem.requires (omega arith)))
-    (λ c. (sym (List·getD-eq-default c.before.args.meanings.now 0 c.if1.false), omega arith)))
+    (λ c. (sym (List·getD-eq-default c.before.args.meanings.now 0 c.if-i-meanings.false), omega arith)))

@@ -9,6 +9,6 @@ plain_at_spec =
     tie.close
     (tie.spec
     (λ c κs. search rules)
-    (λ c κs. let at_leaf = c.before.before in read_within _ _ _ _ at_leaf.leaf-at.result at_leaf.leaf-at.ensures.within)
+    (λ c κs. read_within _ _ _ _ c.leaf_at-r.result c.leaf_at-r.ensures.within)
     (λ c. search rules)
-    (λ c. let at_leaf = c.before.before.before in settled_part _ _ _ _ _ _ _ _ at_leaf.leaf-at.result c.settled.result _ at_leaf.leaf-at.ensures c.settled.ensures))
+    (λ c. settled_part _ _ _ _ _ _ _ _ c.leaf_at-r.result c.settled.result _ c.leaf_at-r.ensures c.settled.ensures))

@@ -9,8 +9,7 @@ put_leaf_spec =
     (tie.spec
     (λ c. search rules)
     (λ c.
-    let at_leaf = c.before.before in
-    let small = rw at_leaf.leaf.given.1 at at_leaf.before.before.before.requires.1 in
+    let small = rw c.in-Known.is at c.requires.1 in
     omega arith)
     (λ c κs. search rules)
     (λ c. search rules)
@@ -18,7 +17,5 @@ put_leaf_spec =
     (λ c. search rules)
     (λ c. search rules)
     (λ c.
-    let at_put = c.before.before in
-    let at_leaf = at_put.before.before.before in
-    rw at_leaf.leaf.given.1 (refl, at_put.put-byte-field.ensures))
-    (λ c. rw c.before.leaf2.given.1 (refl, refl)))
+    rw c.in-Known.is (refl, c.put_byte_field.ensures))
+    (λ c. rw c.in-Unknown.is (refl, refl)))

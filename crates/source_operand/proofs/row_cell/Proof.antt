@@ -10,16 +10,16 @@ row_cell_spec =
     tie.close
     (tie.spec
     (λ c κs. search rules)
-    (λ c. let a = c.before.before.args in rw (le-ltb a.k a.n c.before.if1.true) (c.fault-word.ensures, tt))
+    (λ c. let a = c.before.before.args in rw (le-ltb a.k a.n c.before.if-n-k.true) (c.fault_word.ensures, tt))
     (λ c. search rules)
     (λ c.
     let a = c.before.before.args in
-    rw (lt-ltb a.k a.n c.before.if1.false, ne_eqb a.k 0 c.if2.true) ((refl, omega arith), omega arith))
+    rw (lt-ltb a.k a.n c.before.if-n-k.false, ne_eqb a.k 0 c.if-k-ne0.true) ((refl, omega arith), omega arith))
     (λ c κs. search rules)
     (λ c.
     let a = c.before.before.before.before.args in
-    rw (lt-ltb a.k a.n c.before.before.before.if1.false, eq-eqb a.k 0 c.before.before.if2.false, eq-eqb a.n a.cells c.before.if3.true) (c.fault-word2.ensures, tt))
+    rw (lt-ltb a.k a.n c.before.before.before.if-n-k.false, eq-eqb a.k 0 c.before.before.if-k-ne0.false, eq-eqb a.n a.cells c.before.if-n-cells.true) (c.fault_word-then-n-cells.ensures, tt))
     (λ c.
     let a = c.before.before.before.args in
-    let z : a.i + a.k ≡ a.i = omega (arith, c.before.if2.false) in
-    rw (lt-ltb a.k a.n c.before.before.if1.false, eq-eqb a.k 0 c.before.if2.false, ne_eqb a.n a.cells c.if3.false, z) ((refl, omega arith), omega arith)))
+    let z : a.i + a.k ≡ a.i = omega (arith, c.before.if-k-ne0.false) in
+    rw (lt-ltb a.k a.n c.before.before.if-n-k.false, eq-eqb a.k 0 c.before.if-k-ne0.false, ne_eqb a.n a.cells c.if-n-cells.false, z) ((refl, omega arith), omega arith)))

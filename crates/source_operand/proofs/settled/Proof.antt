@@ -10,6 +10,6 @@ settled_spec =
     (tie.spec
     (λ c. search rules)
     (λ c. search rules)
-    (λ c. settled_fault _ _ _ c.enum_told.given.1)
-    (λ c κs. let at_r = c.before in rw at_r.r.given.1 at at_r.before.before.before.requires)
-    (λ c. settled_done _ _ _ _ _ _ _ c.before.before.r.given.1 c.pass-over.ensures))
+    (λ c. settled_fault _ _ _ c.in_default.is)
+    (λ c κs. rw c.in-Done.is at c.requires)
+    (λ c. settled_done _ _ _ _ _ _ _ c.in-Done.is c.pass_over.ensures))
