@@ -4,10 +4,10 @@ use Rattle.source_onward.proofs.Stands.{Opening, opening_start, opening_turn, op
 use Rattle.source_onward.proofs.brackets_at.Statement.{statement}
 use Rattle.source_onward.proofs.brackets_at.Tie as tie
 
-abbrev invariant-loop : tie.invariant-loop
+abbrev invariant-loop : tie.invariant-loop-at
 invariant-loop text at first₀ opened₀ first opened = Opening text at first opened
 
-abbrev decreases-loop : tie.decreases-loop
+abbrev decreases-loop : tie.decreases-loop-at
 decreases-loop text at first₀ opened₀ first opened = length text - first
 
 pub brackets_at_spec : {M : Type 1} → statement M
@@ -17,11 +17,11 @@ brackets_at_spec =
     invariant-loop
     decreases-loop
     (λ c κs. search rules)
-    (λ c. let at_byte = c.before in none_opens _ _ at_byte.before.before.requires.1 (omega (arith, at_byte.byte_at.ensures, c.if1.true)))
+    (λ c. let at_byte = c.before in none_opens _ _ at_byte.before.before.requires.1 (omega (arith, at_byte.byte_at.ensures, c.if-byte_at-gt40.true)))
     (λ c. opening_start _ _ c.before.before.before.requires.1)
-    (λ c κs. (c.before.before.before.before.requires.0, c.loop.invariant.within))
-    (λ c κs. c.before.before.loop.invariant.within)
-    (λ c. opening_end c.before.before.before.loop.invariant _ c.before.before.opening-at.ensures c.before.if2.true _ c.pass-over.ensures)
-    (λ c. let at_loop = c.before.before in omega (arith, at_loop.loop.invariant.few, at_loop.loop.invariant.within, at_loop.before.before.before.before.requires.0))
-    (λ c. let b = c.before.opening-at.ensures.onward c.if2.false in omega arith)
-    (λ c. opening_turn c.before.before.loop.invariant _ c.before.opening-at.ensures c.if2.false))
+    (λ c κs. (c.before.before.before.before.requires.0, c.loop-at.invariant.within))
+    (λ c κs. c.before.before.loop-at.invariant.within)
+    (λ c. opening_end c.before.before.before.loop-at.invariant _ c.before.before.opening_at-next.ensures c.before.if-next-eq0.true _ c.pass_over.ensures)
+    (λ c. let at_loop = c.before.before in omega (arith, at_loop.loop-at.invariant.few, at_loop.loop-at.invariant.within, at_loop.before.before.before.before.requires.0))
+    (λ c. let b = c.before.opening_at-next.ensures.onward c.if-next-eq0.false in omega arith)
+    (λ c. opening_turn c.before.before.loop-at.invariant _ c.before.opening_at-next.ensures c.if-next-eq0.false))

@@ -6,6 +6,6 @@ use Rattle.source_onward.proofs.lone_mark.Tie as tie
 pub lone_mark_spec : {M : Type 1} → statement M
 lone_mark_spec =
     tie.close
-    (tie.spec (λ c. lone_plus _ c.match.keys1) (λ c. lone_minus _ c.match.keys2)
-    (λ c. lone_times _ c.match.keys3) (λ c. lone_slash _ c.match.keys4) (λ c. lone_closes _ c.match.keys5)
+    (tie.spec (λ c. lone_plus _ c.in-43.is) (λ c. lone_minus _ c.in-45.is)
+    (λ c. lone_times _ c.in-42.is) (λ c. lone_slash _ c.in-47.is) (λ c. lone_closes _ c.in-41.is)
     (λ c. lone_none _))

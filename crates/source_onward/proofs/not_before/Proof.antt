@@ -9,13 +9,11 @@ pub not_before_spec : {M : Type 1} → statement M
 not_before_spec =
     tie.close
     (tie.spec
-    (λ c. omega (arith, c.before.requires.0, c.before.requires.1.0.inside))
+    (λ c. omega (arith, c.requires.0, c.requires.1.0.inside))
     (λ c κs. search rules)
-    (λ c. omega (arith, c.before.before.before.requires.0, c.before.before.before.requires.1.0.inside))
+    (λ c. omega (arith, c.requires.0, c.requires.1.0.inside))
     (λ c.
-    let at_byte = c.before in
-    let start = at_byte.before.before in
-    before_not _ _ start.requires.1.0 start.requires.1.1 (λ z. c.if1.true (at_byte.byte_at.ensures ∙ z)))
-    (λ c κs. let start = c.before.before.before in (start.requires.1.0, not_in_word start.args.text.now start.args.at start.requires.1.1))
+    before_not _ _ c.requires.1.0 c.requires.1.1 (λ z. c.if-byte_at-ne61.true (c.byte_at.ensures ∙ z)))
+    (λ c κs. (c.requires.1.0, not_in_word c.args.text.now c.args.at c.requires.1.1))
     (λ c κs. search rules)
-    (λ c. before_sign _ _ _ _ _ (stands _ _ c.before.mark-at.result _ _ _ c.before.mark-at.ensures.0 c.before.mark-at.ensures.1 c.standing-of.ensures)))
+    (λ c. before_sign _ _ _ _ _ (stands _ _ c.mark_at.result _ _ _ c.mark_at.ensures.0 c.mark_at.ensures.1 c.standing_of.ensures)))

@@ -10,9 +10,8 @@ onward_at_spec =
     tie.close
     (tie.spec
     (λ c.
-    let start = c.before.before.before in
-    (onward_lowest _ _ _ _ start.args.depth _ c.before.if1.true c.if2.true, tokens_some _ _ start.requires.1.0))
+    (onward_lowest _ _ _ _ c.args.depth _ c.if-level-eq0.true c.if-opened-eq0.true, tokens_some _ _ c.requires.1.0))
     (λ c κs. search rules)
-    (λ c κs. omega (arith, c.sign-ahead.ensures.within, c.before.before.before.requires.0))
+    (λ c κs. omega (arith, c.sign_ahead-standing.ensures.within, c.requires.0))
     (λ c.
-    (onward_read _ _ _ _ _ _ _ _ c.before.before.before.before.requires.1.1 c.before.sign-ahead.ensures _ _ c.onward-of.ensures, c.before.sign-ahead.ensures.some)))
+    (onward_read _ _ _ _ _ _ _ _ c.requires.1.1 c.sign_ahead-standing.ensures _ _ c.onward_of.ensures, c.sign_ahead-standing.ensures.some)))

@@ -13,25 +13,19 @@ sign_ahead_spec =
     (λ c κs. search rules)
     (λ c. search rules)
     (λ c κs.
-    let at_lone = c.before in
-    let start = at_lone.before.before.before in
-    lone_behind start.args.text.now start.args.at _ _ at_lone.before.byte_at.ensures at_lone.lone-mark.ensures c.if1.true)
+    lone_behind c.args.text.now c.args.at _ _ c.byte_at.ensures c.lone_mark-lone.ensures c.if-lone-ne0.true)
     (λ c.
-    let at_lone = c.before.before in
-    ahead_lone _ _ _ _ at_lone.before.byte_at.ensures at_lone.lone-mark.ensures c.before.if1.true _ c.pass-over.ensures)
+    ahead_lone _ _ _ _ c.byte_at.ensures c.lone_mark-lone.ensures c.if-lone-ne0.true _ c.pass_over.ensures)
     (λ c κs. search rules)
-    (λ c. ahead_end _ _ _ c.before.pass-over2.ensures c.before.before.before.before.before.before.requires.1 c.if2.true)
+    (λ c. ahead_end _ _ _ c.pass_over-p.ensures c.requires.1 c.if-text-p.true)
     (λ c. search rules)
     (λ c κs. search rules)
     (λ c.
-    let at_pass = c.before.before.before.before in
-    ahead_word _ _ _ at_pass.pass-over2.ensures at_pass.before.before.before.before.before.requires.1 (omega (arith, c.before.before.before.if2.false)) (sym c.before.in-word.ensures ∙ c.if3.true))
+    ahead_word _ _ _ c.pass_over-p.ensures c.requires.1 (omega (arith, c.if-text-p.false)) (sym c.in_word.ensures ∙ c.if-in_word.true))
     (λ c κs.
-    let at_if = c.before.before.before in
-    (at_if.before.pass-over2.ensures.begun (omega (arith, at_if.if2.false)), sym c.before.in-word.ensures ∙ c.if3.false))
+    (c.pass_over-p.ensures.begun (omega (arith, c.if-text-p.false)), sym c.in_word.ensures ∙ c.if-in_word.false))
     (λ c κs. search rules)
-    (λ c κs. (stands _ _ c.before.mark-at.result _ _ _ c.before.mark-at.ensures.0 c.before.mark-at.ensures.1 c.standing-of.ensures).behind)
+    (λ c κs. (stands _ _ c.mark_at.result _ _ _ c.mark_at.ensures.0 c.mark_at.ensures.1 c.standing_of-standing.ensures).behind)
     (λ c.
-    let at_mark = c.before.before in
-    ahead_sign _ _ _ at_mark.before.before.before.before.before.pass-over2.ensures _ _ _ _
-    (stands _ _ at_mark.mark-at.result _ _ _ at_mark.mark-at.ensures.0 at_mark.mark-at.ensures.1 c.before.standing-of.ensures) c.pass-over3.ensures))
+    ahead_sign _ _ _ c.pass_over-p.ensures _ _ _ _
+    (stands _ _ c.mark_at.result _ _ _ c.mark_at.ensures.0 c.mark_at.ensures.1 c.standing_of-standing.ensures) c.pass_over-2.ensures))

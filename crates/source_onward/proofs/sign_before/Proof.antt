@@ -11,18 +11,13 @@ sign_before_spec =
     (tie.spec
     (λ c κs. search rules)
     (λ c κs.
-    let at_byte = c.before in
-    let start = at_byte.before.before in
-    let e = sym at_byte.byte_at.ensures ∙ c.if1.true in
-    (start.requires.0, (not_begun _ _ start.requires.1 e, e)))
+    let e = sym c.byte_at-b.ensures ∙ c.if-b-eq33.true in
+    (c.requires.0, (not_begun _ _ c.requires.1 e, e)))
     (λ c. c.not_before.ensures)
     (λ c.
-    let at_byte = c.before.before in
-    before_other _ _ at_byte.before.before.requires.1 (λ z. c.before.if1.false (at_byte.byte_at.ensures ∙ z)) (λ z. c.if2.true (at_byte.byte_at.ensures ∙ z)))
+    before_other _ _ c.requires.1 (λ z. c.if-b-eq33.false (c.byte_at-b.ensures ∙ z)) (λ z. c.if-b-ne105.true (c.byte_at-b.ensures ∙ z)))
     (λ c κs.
-    let at_byte = c.before.before in
-    let start = at_byte.before.before in
-    let e = sym at_byte.byte_at.ensures ∙ c.if2.false in
-    (start.requires.0, (above_begins _ _ (omega arith), e)))
+    let e = sym c.byte_at-b.ensures ∙ c.if-b-ne105.false in
+    (c.requires.0, (above_begins _ _ (omega arith), e)))
     (λ c. search rules)
-    (λ c. c.if-sign.ensures))
+    (λ c. c.if_sign.ensures))
