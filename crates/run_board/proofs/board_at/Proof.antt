@@ -1,5 +1,5 @@
 -- Each return is one branch of the definition: a law for each, over what was read.
-use Rattle.lib_base.proofs.Prelude.{ℕ, ◌≤◌, ◌<◌, ◌+◌, ◌≡◌, true, false, Bool, List, lt-leb, le-leb, not-true, not-false}
+use Rattle.lib_base.proofs.Prelude.{ℕ, ◌≤◌, ◌<◌, ◌+◌, ◌≡◌, true, false, Bool, List, lt-leb, le-leb}
 use Rattle.lib_base.proofs.Prelude.{rules}
 use Rattle.lib_word.specs.Word.{get}
 use Rattle.spec_language.specs.Refusals as refusals
@@ -58,10 +58,10 @@ module _ (c : tie.Else-not-is_ours) where
   entry = c.before.before.before.before
 
   valid : Bounds entry.args.table.now entry.args.round.now
-  valid = c.before.is_ours.ensures.1 (not-false _ c.if-not-is_ours.false)
+  valid = c.before.is_ours.ensures.1 c.if-not-is_ours.false
 
   inside : {r : ℕ} → r ≡ asked entry board_in → r ≡ asked entry board_on
-  inside = opened _ _ _ _ c.before.is_ours.ensures.0 (not-false _ c.if-not-is_ours.false)
+  inside = opened _ _ _ _ c.before.is_ours.ensures.0 c.if-not-is_ours.false
 
 -- where the behaviour is known
 module _ (c : tie.Else-get_word-behaviour) where
@@ -81,24 +81,24 @@ returns_5 : tie.Need-returns-then-copy_back_under_way
 returns_5 c =
     let right = c.before.before in
     found right.before.before (copied_back _ _ _ _ right.before.may_see.ensures
-    (not-false _ right.if-not-may_see.false) c.before.copy_back_under_way.ensures c.if-copy_back_under_way.true)
+    right.if-not-may_see.false c.before.copy_back_under_way.ensures c.if-copy_back_under_way.true)
 
 returns_6 : tie.Need-returns
 returns_6 c =
     let right = c.before.before.before in
-    found right.before.before (shown _ _ _ _ right.before.may_see.ensures (not-false _ right.if-not-may_see.false)
+    found right.before.before (shown _ _ _ _ right.before.may_see.ensures right.if-not-may_see.false
     c.before.before.copy_back_under_way.ensures c.before.if-copy_back_under_way.false c.get_word-2.ensures)
 
 pub board_at_spec : {M : Type 1} → statement M
 board_at_spec =
     tie.close
     (tie.spec (search rules)
-    (λ c. foreign _ _ _ _ c.before.is_ours.ensures.0 (not-true _ c.if-not-is_ours.true))
+    (λ c. foreign _ _ _ _ c.before.is_ours.ensures.0 c.if-not-is_ours.true)
     (λ c. inside c.before (no_player_law _ _ _ _ c.if-player-ge-PLAYERS.true))
     (λ c κs. let b = valid c.before in search rules)
     returns_3
     (λ c κs. let b = valid (ours_at c) in search rules)
-    (λ c. found c.before.before (no_right_law _ _ _ _ c.before.may_see.ensures (not-true _ c.if-not-may_see.true)))
+    (λ c. found c.before.before (no_right_law _ _ _ _ c.before.may_see.ensures c.if-not-may_see.true))
     (λ c κs. valid (ours_at c.before.before))
     returns_5 (search rules)
     (λ c κs. let b = valid (ours_at c.before.before.before.before) in search rules)
