@@ -3,23 +3,20 @@ use borrow.Author.Rules.{rules}
 use Rattle.source_hint.proofs.declared_at.Statement.{statement}
 use Rattle.source_hint.proofs.declared_at.Tie as tie
 
-name_due_requires : tie.Need-name-due-requires
+name_due_requires : tie.Need-name_due-name-requires
 name_due_requires c κs =
-    let at_token = c.before.before.before in
-    let within = rw c.before.word.given.1 at at_token.token-at.ensures.1 in
-    (at_token.before.before.requires.0, within.2)
+    let within = rw c.in-Sign.is at c.token_at-word.ensures.1 in
+    (c.requires.0, within.2)
 
-hinted_cells_requires : tie.Need-hinted-cells-requires
+hinted_cells_requires : tie.Need-hinted_cells-requires
 hinted_cells_requires c κs =
-    let at_name = c.before.before.before in
-    let within = rw c.before.name.given.1 at at_name.name-due.ensures.1 in
-    (at_name.before.before.before.before.before.before.requires.0, within.2)
+    let within = rw c.in-Found.is at c.name_due-name.ensures.1 in
+    (c.requires.0, within.2)
 
-returns_3 : tie.Need-returns-3
+returns_3 : tie.Need-returns
 returns_3 c =
-    let at_name = c.before.before.before.before in
-    let within = rw c.before.before.name.given.1 at at_name.name-due.ensures.1 in
-    (c.hinted-cells.ensures, within.2)
+    let within = rw c.in-Found.is at c.name_due-name.ensures.1 in
+    (c.hinted_cells.ensures, within.2)
 
 pub declared_at_spec : {M : Type 1} → statement M
 declared_at_spec =

@@ -3,15 +3,14 @@ use Rattle.lib_base.proofs.Prelude.{rules, arith}
 use Rattle.source_hint.proofs.hinted_cells.Statement.{statement}
 use Rattle.source_hint.proofs.hinted_cells.Tie as tie
 
-number_due_requires : tie.Need-number-due-requires
+number_due_requires : tie.Need-number_due-counted-requires
 number_due_requires c κs =
-    let at_sign = c.before.before.before in
-    let within = rw c.before.opened.given.1 at at_sign.sign-due.ensures.1 in
-    (at_sign.before.before.before.before.requires.0, (within.2, omega arith))
+    let within = rw c.in-Found.is at c.sign_due-opened.ensures.1 in
+    (c.requires.0, (within.2, omega arith))
 
-returns_5 : tie.Need-returns-5
+returns_5 : tie.Need-returns
 returns_5 c =
-    let told = rw c.before.counted.given.1 at c.before.before.before.number-due.ensures.0 in
+    let told = rw c.in-Found-counted.is at c.number_due-counted.ensures.0 in
     told.1
 
 pub hinted_cells_spec : {M : Type 1} → statement M

@@ -4,25 +4,25 @@ use Rattle.source_hint.proofs.Laws.{alike_turn, alike_end}
 use Rattle.source_hint.proofs.is_same.Statement.{statement}
 use Rattle.source_hint.proofs.is_same.Tie as tie
 
-abbrev invariant-loop : tie.invariant-loop
+abbrev invariant-loop : tie.invariant-loop-k
 invariant-loop some others k₀ k = (i : ℕ) → i < k → get_or some i 0 ≡ get_or others i 0
 
-abbrev decreases-loop : tie.decreases-loop
+abbrev decreases-loop : tie.decreases-loop-k
 decreases-loop some others k₀ k = length some - k
 
-read_other : tie.Need-shared-slice-read-if2-2 invariant-loop decreases-loop
-read_other c = omega (arith, c.before.before.loop-test.true, c.before.before.before.before.if1.false)
+read_other : tie.Need-bounds-others-k invariant-loop decreases-loop
+read_other c = omega (arith, c.before.before.loop-k-test.true, c.before.before.before.before.if-some-others.false)
 
-loop_again : tie.Need-loop-preserved invariant-loop decreases-loop
+loop_again : tie.Need-loop-k-preserved invariant-loop decreases-loop
 loop_again c =
     let at_loop = c.before.before.before.before in
     let a = at_loop.before.before.args in
-    let k = at_loop.loop.k in
-    let same : get_or a.some.now k 0 ≡ get_or a.others.now k 0 = omega (arith, c.if2.false) in
-    alike_turn a.some.now a.others.now k at_loop.loop.invariant same
+    let k = at_loop.loop-k.k in
+    let same : get_or a.some.now k 0 ≡ get_or a.others.now k 0 = omega (arith, c.if-some-k.false) in
+    alike_turn a.some.now a.others.now k at_loop.loop-k.invariant same
 
-returns_3 : tie.Need-returns-3 invariant-loop decreases-loop
-returns_3 c e = alike_end _ _ _ c.before.loop.invariant c.loop-test.false (omega (arith, c.before.before.if1.false))
+returns_3 : tie.Need-returns invariant-loop decreases-loop
+returns_3 c e = alike_end _ _ _ c.before.loop-k.invariant c.loop-k-test.false (omega (arith, c.before.before.if-some-others.false))
 
 pub is_same_spec : {M : Type 1} → statement M
 is_same_spec =
