@@ -5,11 +5,10 @@ use Rattle.source_declarations.proofs.default_at.Statement.{statement}
 use Rattle.source_declarations.proofs.default_at.Tie as tie
 
 returns : tie.Need-returns-in_default
-returns c =
-    (
-      default_none c.args.text.now c.args.q c.args.at _ _ c.sign_due-equals.ensures.0 c.in_default.is,
-      (omega arith, omega arith),
-    )
+returns c = (
+  default_none c.args.text.now c.args.q c.args.at _ _ c.sign_due-equals.ensures.0 c.in_default.is,
+  (omega arith, omega arith),
+)
 
 value_at_requires : tie.Need-value_at-value-requires
 value_at_requires c κs =
@@ -17,12 +16,11 @@ value_at_requires c κs =
     (omega arith, omega arith)
 
 returns_2 : tie.Need-returns-in_default-value
-returns_2 c =
-    (
-      default_bad c.args.text.now c.args.q c.args.at _ _ _ _ _ _ c.sign_due-equals.ensures.0
-          c.in-Found.is c.value_at-value.ensures.0 c.in_default-value.field-0.1,
-      rw c.in_default-value.field-0.1 tt,
-    )
+returns_2 c = (
+  default_bad c.args.text.now c.args.q c.args.at _ _ _ _ _ _ c.sign_due-equals.ensures.0
+      c.in-Found.is c.value_at-value.ensures.0 c.in_default-value.is,
+  rw c.in_default-value.is tt,
+)
 
 returns_3 : tie.Need-returns
 returns_3 c =

@@ -37,78 +37,56 @@ event_from_requires c κs =
     let inside = rw c.in-Found.is at c.sign_due-word.ensures.1 in
     (omega arith, (omega arith, (omega arith, omega (arith, turn.few, turn.kept))))
 
--- where an event is read, its word, and the turn that it is read in
-module _ (c : tie.After-event_from-one invariant-loop decreases-loop) where
-  abbrev word_at : tie.In-Found-2 invariant-loop decreases-loop
-  word_at = c.before.before.before
-
-  abbrev sign_at : tie.After-sign_due-word invariant-loop decreases-loop
-  sign_at = word_at.before.before
-
-  abbrev turn_at : tie.At-loop-p invariant-loop decreases-loop
-  turn_at = sign_at.before
-
 same_length_3 : tie.Need-shape_of-events-in-Fault invariant-loop decreases-loop
 same_length_3 c =
-    let at_loop = turn_at c.before.before.before in
-    omega (arith, at_loop.loop-p.inv.kept, at_loop.pre.1.1.0)
+    omega (arith, c.loop-p.invariant.kept, c.requires.1.1.0)
 
 same_length_4 : tie.Need-shape_of-out-in-Fault invariant-loop decreases-loop
-same_length_4 c = (turn_at c.before.before.before).loop-p.inv.same
+same_length_4 c = c.loop-p.invariant.same
 
 returns_2 : tie.Need-returns-in-Fault invariant-loop decreases-loop
 returns_2 c =
-    let turn = (turn_at c.before.before.before).loop-p.invariant in (
-      events_fault_law _ _ _ _ _ _ turn (sign_at c.before.before.before).sign_due-word.ensures.0 (word_at c.before.before.before).in-Found.is c.event_from-one.ensures.0
+    let turn = c.loop-p.invariant in (
+      events_fault_law _ _ _ _ _ _ turn c.sign_due-word.ensures.0 c.in-Found.is c.event_from-one.ensures.0
           c.in-Fault.is,
       (tt, (turn.kept, turn.same)),
     )
 
 slice_write_events : tie.Need-bounds-events-count invariant-loop decreases-loop
 slice_write_events c =
-    let turn = (turn_at c.before.before.before).loop-p.invariant in
-    let room = events_room_law _ _ _ _ _ _ _ _ _ turn (word_at c.before.before.before).in-Found.is c.event_from-one.ensures.0 c.in-Named.is in
+    let turn = c.loop-p.invariant in
+    let room = events_room_law _ _ _ _ _ _ _ _ _ turn c.in-Found.is c.event_from-one.ensures.0 c.in-Named.is in
     omega (arith, turn.kept)
 
 cast_put_event : tie.Need-overflow_cast-rank invariant-loop decreases-loop
 cast_put_event c =
-    let further = events_onward _ _ _ _ _ _ _ _ _ (turn_at c.before.before.before.before).loop-p.invariant (sign_at c.before.before.before.before).sign_due-word.ensures.1 (word_at c.before.before.before.before).in-Found.is
+    let further = events_onward _ _ _ _ _ _ _ _ _ c.loop-p.invariant c.sign_due-word.ensures.1 c.in-Found.is
     c.event_from-one.ensures.1 c.in-Named.is in
     omega (arith, further.2)
 
 put_event_requires : tie.Need-put_event-end-requires invariant-loop decreases-loop
 put_event_requires c κs =
-    let turn = (turn_at c.before.before.before.before).loop-p.invariant in
-    let further = events_onward _ _ _ _ _ _ _ _ _ turn (sign_at c.before.before.before.before).sign_due-word.ensures.1 (word_at c.before.before.before.before).in-Found.is
+    let turn = c.loop-p.invariant in
+    let further = events_onward _ _ _ _ _ _ _ _ _ turn c.sign_due-word.ensures.1 c.in-Found.is
     c.event_from-one.ensures.1 c.in-Named.is in
-    omega (arith, turn.low, turn.within, (turn_at c.before.before.before.before).requires.0)
-
--- an event's field is written: where the event was taken apart, and where it was read
-module _ (c : tie.After-put_event-end invariant-loop decreases-loop) where
-  abbrev one_at : tie.In-Named-2 invariant-loop decreases-loop
-  one_at = c.before.before.before
-
-  abbrev call_at : tie.After-event_from-one invariant-loop decreases-loop
-  call_at = one_at.before.before
+    omega (arith, turn.low, turn.within, c.requires.0)
 
 add_count : tie.Need-overflow_add-count invariant-loop decreases-loop
-add_count c = omega (arith, (turn_at (call_at c.before.before)).loop-p.inv.few)
+add_count c = omega (arith, c.loop-p.invariant.few)
 
 loop_less : tie.Need-loop-p-smaller invariant-loop decreases-loop
 loop_less c =
-    let call = call_at c.before.before in
-    let further = events_onward _ _ _ _ _ _ _ _ _ (turn_at call).loop-p.inv (sign_at call).sign_due-word.ensures.1 (word_at call).in-Found.is
-    call.event_from-one.ensures.1 (one_at c.before.before).in-Named.is in
+    let further = events_onward _ _ _ _ _ _ _ _ _ c.loop-p.invariant c.sign_due-word.ensures.1 c.in-Found.is
+    c.event_from-one.ensures.1 c.in-Named.is in
     omega arith
 
 loop_again : tie.Need-loop-p-preserved invariant-loop decreases-loop
 loop_again c =
-    let call = call_at c.before.before in
-    let turn = (turn_at call).loop-p.inv in
-    let further = events_onward _ _ _ _ _ _ _ _ _ turn (sign_at call).sign_due-word.ensures.1 (word_at call).in-Found.is
-    call.event_from-one.ensures.1 (one_at c.before.before).in-Named.is in
-    events_turn _ _ _ _ _ _ _ _ _ _ _ turn (sign_at call).sign_due-word.ensures.0 (word_at call).in-Found.is call.event_from-one.ensures.0
-    (one_at c.before.before).in-Named.is further c.put_event-end.ensures.1 c.put_event-end.ensures.0
+    let turn = c.loop-p.invariant in
+    let further = events_onward _ _ _ _ _ _ _ _ _ turn c.sign_due-word.ensures.1 c.in-Found.is
+    c.event_from-one.ensures.1 c.in-Named.is in
+    events_turn _ _ _ _ _ _ _ _ _ _ _ turn c.sign_due-word.ensures.0 c.in-Found.is c.event_from-one.ensures.0
+    c.in-Named.is further c.put_event-end.ensures.1 c.put_event-end.ensures.0
 
 pub events_at_spec : {M : Type 1} → statement M
 events_at_spec =

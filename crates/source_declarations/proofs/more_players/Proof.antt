@@ -36,11 +36,10 @@ fault_word_requires c κs =
     (omega arith, omega arith)
 
 returns_3 : tie.Need-returns-then-v-gt-LARGEST invariant-loop decreases-loop
-returns_3 c =
-    (
-      players_large _ _ _ _ _ c.loop-p.invariant c.token_at-t.ensures.0 c.in-Number.is c.if-v-gt-LARGEST.true c.fault_word.ensures,
-      tt,
-    )
+returns_3 c = (
+  players_large _ _ _ _ _ c.loop-p.invariant c.token_at-t.ensures.0 c.in-Number.is c.if-v-gt-LARGEST.true c.fault_word.ensures,
+  tt,
+)
 
 fault_word_requires_2 : tie.Need-fault_word-requires-then-v-gt-HIGHEST_PLAYER invariant-loop decreases-loop
 fault_word_requires_2 c κs =
@@ -48,12 +47,11 @@ fault_word_requires_2 c κs =
     (omega arith, omega arith)
 
 returns_4 : tie.Need-returns-then-v-gt-HIGHEST_PLAYER invariant-loop decreases-loop
-returns_4 c =
-    (
-      players_off _ _ _ _ _ c.loop-p.invariant c.token_at-t.ensures.0 c.in-Number.is c.if-v-gt-LARGEST.false
-          c.if-v-gt-HIGHEST_PLAYER.true c.fault_word-then-v-gt-HIGHEST_PLAYER.ensures,
-      tt,
-    )
+returns_4 c = (
+  players_off _ _ _ _ _ c.loop-p.invariant c.token_at-t.ensures.0 c.in-Number.is c.if-v-gt-LARGEST.false
+      c.if-v-gt-HIGHEST_PLAYER.true c.fault_word-then-v-gt-HIGHEST_PLAYER.ensures,
+  tt,
+)
 
 loop_less : tie.Need-loop-p-smaller invariant-loop decreases-loop
 loop_less c =

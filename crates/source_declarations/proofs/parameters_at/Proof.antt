@@ -33,44 +33,35 @@ parameter_at_requires c κs =
     let inside = rw c.in-Found.is at c.sign_due-word.ensures.1 in
     (omega arith, (omega arith, (omega arith, omega (arith, turn.few, turn.kept))))
 
--- where a parameter is read, and where its word stands
-module _ (c : tie.After-parameter_at-one invariant-loop decreases-loop) where
-  abbrev word_at : tie.In-Found-2 invariant-loop decreases-loop
-  word_at = c.before.before.before
-
-  abbrev sign_at : tie.After-sign_due-word invariant-loop decreases-loop
-  sign_at = word_at.before.before
-
 same_length_2 : tie.Need-shape_of-names-in_default-one invariant-loop decreases-loop
 same_length_2 c =
-    let at_loop = (sign_at c.before.before.before).before in
-    omega (arith, at_loop.loop-p.inv.kept, at_loop.pre.1.1)
+    omega (arith, c.loop-p.invariant.kept, c.requires.1.1)
 
 returns_2 : tie.Need-returns-in_default-one invariant-loop decreases-loop
 returns_2 c =
-    let turn = (sign_at c.before.before.before).loop-p.invariant in (
-      parameters_fault _ _ _ _ _ _ _ turn (sign_at c.before.before.before).sign_due-word.ensures.0 (word_at c.before.before.before).in-Found.is c.parameter_at-one.ensures.0
-          c.in_default-one.field-0.1 c.fault_in.ensures,
+    let turn = c.loop-p.invariant in (
+      parameters_fault _ _ _ _ _ _ _ turn c.sign_due-word.ensures.0 c.in-Found.is c.parameter_at-one.ensures.0
+          c.in_default-one.is c.fault_in.ensures,
       (tt, turn.kept),
     )
 
 slice_write_names : tie.Need-bounds-names-count invariant-loop decreases-loop
-slice_write_names c = let turn = (sign_at c.before.before.before).loop-p.inv in omega (arith, turn.few, turn.kept)
+slice_write_names c = let turn = c.loop-p.invariant in omega (arith, turn.few, turn.kept)
 
 add_count : tie.Need-overflow_add-count invariant-loop decreases-loop
-add_count c = let turn = (sign_at c.before.before.before).loop-p.inv in omega (arith, turn.few)
+add_count c = let turn = c.loop-p.invariant in omega (arith, turn.few)
 
 loop_less : tie.Need-loop-p-smaller invariant-loop decreases-loop
 loop_less c =
-    let further = parameters_onward _ _ _ _ _ _ _ _ (sign_at c.before.before.before).loop-p.invariant (sign_at c.before.before.before).sign_due-word.ensures.1 (word_at c.before.before.before).in-Found.is
+    let further = parameters_onward _ _ _ _ _ _ _ _ c.loop-p.invariant c.sign_due-word.ensures.1 c.in-Found.is
     c.parameter_at-one.ensures.1 c.in-Found-one.is in
     omega arith
 
 loop_again : tie.Need-loop-p-preserved invariant-loop decreases-loop
 loop_again c =
-    let further = parameters_onward _ _ _ _ _ _ _ _ (sign_at c.before.before.before).loop-p.invariant (sign_at c.before.before.before).sign_due-word.ensures.1 (word_at c.before.before.before).in-Found.is
+    let further = parameters_onward _ _ _ _ _ _ _ _ c.loop-p.invariant c.sign_due-word.ensures.1 c.in-Found.is
     c.parameter_at-one.ensures.1 c.in-Found-one.is in
-    parameters_turn _ _ _ _ _ _ _ _ (sign_at c.before.before.before).loop-p.invariant (sign_at c.before.before.before).sign_due-word.ensures.0 (word_at c.before.before.before).in-Found.is
+    parameters_turn _ _ _ _ _ _ _ _ c.loop-p.invariant c.sign_due-word.ensures.0 c.in-Found.is
     c.parameter_at-one.ensures.0 c.in-Found-one.is further
 
 pub parameters_at_spec : {M : Type 1} → statement M

@@ -15,27 +15,24 @@ fault_word_requires_2 c κs =
     (omega arith, omega arith)
 
 returns : tie.Need-returns-then-c-ne-NOBODY
-returns c =
-    (
-      players_other c.args.text.now c.args.at _ _ _ _ _ c.token_at-t.ensures.0 c.in-Sign.is c.if-c-ne-NOBODY.true
-          c.fault_word-then-c-ne-NOBODY.ensures,
-      tt,
-    )
+returns c = (
+  players_other c.args.text.now c.args.at _ _ _ _ _ c.token_at-t.ensures.0 c.in-Sign.is c.if-c-ne-NOBODY.true
+      c.fault_word-then-c-ne-NOBODY.ensures,
+  tt,
+)
 
 returns_2 : tie.Need-returns-in-Number
-returns_2 c =
-    (
-      players_numbered c.args.text.now c.args.at _ _ _ _ c.more_players.result c.token_at-t.ensures.0 c.in-Number.is
-          c.more_players.ensures.0,
-      c.more_players.ensures.1,
-    )
+returns_2 c = (
+  players_numbered c.args.text.now c.args.at _ _ _ _ c.more_players.result c.token_at-t.ensures.0 c.in-Number.is
+      c.more_players.ensures.0,
+  c.more_players.ensures.1,
+)
 
 returns_3 : tie.Need-returns-in-Name
-returns_3 c =
-    (
-      players_named c.args.text.now c.args.at _ _ _ _ c.token_at-t.ensures.0 c.in-Name.is c.fault_word.ensures,
-      tt,
-    )
+returns_3 c = (
+  players_named c.args.text.now c.args.at _ _ _ _ c.token_at-t.ensures.0 c.in-Name.is c.fault_word.ensures,
+  tt,
+)
 
 returns_4 : tie.Need-returns-else-c-ne-NOBODY
 returns_4 c =

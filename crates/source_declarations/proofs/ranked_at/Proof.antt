@@ -16,19 +16,11 @@ number_due_requires c κs =
     let inside = rw c.in-Found.is at c.sign_due-word.ensures.1 in
     (omega arith, (omega arith, omega arith))
 
--- where the rank is read, and its word
-module _ (c : tie.After-number_due-rank) where
-  abbrev word_at : tie.In-Found-2
-  word_at = c.before.before
-
-  abbrev sign_at : tie.After-sign_due-word
-  sign_at = word_at.before.before
-
 returns_2 : tie.Need-returns-in_default-rank
 returns_2 c =
-    let a = (sign_at c.before.before.before).args in (
-      ranked_unnumbered a.text.now a.q a.at _ _ _ _ _ _ _ (sign_at c.before.before.before).sign_due-word.ensures.0 (word_at c.before.before.before).in-Found.is
-          c.number_due-rank.ensures.0 c.in_default-rank.field-0.1 c.fault_in-in_default-rank.ensures,
+    let a = c.args in (
+      ranked_unnumbered a.text.now a.q a.at _ _ _ _ _ _ _ c.sign_due-word.ensures.0 c.in-Found.is
+          c.number_due-rank.ensures.0 c.in_default-rank.is c.fault_in-in_default-rank.ensures,
       tt,
     )
 
@@ -39,8 +31,8 @@ fault_word_requires c κs =
 
 returns_3 : tie.Need-returns-then-n
 returns_3 c =
-    let a = (sign_at c.before.before.before.before.before).args in (
-      ranked_off a.text.now a.q a.at _ _ _ _ _ _ _ _ _ (sign_at c.before.before.before.before.before).sign_due-word.ensures.0 (word_at c.before.before.before.before.before).in-Found.is
+    let a = c.args in (
+      ranked_off a.text.now a.q a.at _ _ _ _ _ _ _ _ _ c.sign_due-word.ensures.0 c.in-Found.is
           c.number_due-rank.ensures.0 c.in-Found-rank.is c.if-n.true c.fault_word.ensures,
       tt,
     )
@@ -50,31 +42,21 @@ from_at_requires c κs =
     let inside = rw c.in-Found-rank.is at c.number_due-rank.ensures.1 in
     (omega arith, omega arith)
 
--- where the players are read, and the rank before them
-module _ (c : tie.After-from_at-rights) where
-  abbrev rank_at_law : tie.In-Found-rank-2
-  rank_at_law = c.before.before.before
-
-  abbrev number_at : tie.After-number_due-rank
-  number_at = rank_at_law.before.before
-
 returns_4 : tie.Need-returns-in-Given
 returns_4 c =
-    let call = number_at c.before.before.before in
-    let a = (sign_at call).args in
+    let a = c.args in
     let low = c.if-n.false in (
-      ranked_sent a.text.now a.q a.at _ _ _ _ _ _ _ _ _ _ _ (sign_at call).sign_due-word.ensures.0 (word_at call).in-Found.is
-          call.number_due-rank.ensures.0 (rank_at_law c.before.before.before).in-Found-rank.is low c.from_at-rights.ensures.0 c.in-Given.is,
-      ranked_within (length a.text.now) a.at _ _ _ _ _ _ _ _ _ _ _ (sign_at call).sign_due-word.ensures.1 (word_at call).in-Found.is
-          call.number_due-rank.ensures.1 (rank_at_law c.before.before.before).in-Found-rank.is c.from_at-rights.ensures.1 c.in-Given.is low,
+      ranked_sent a.text.now a.q a.at _ _ _ _ _ _ _ _ _ _ _ c.sign_due-word.ensures.0 c.in-Found.is
+          c.number_due-rank.ensures.0 c.in-Found-rank.is low c.from_at-rights.ensures.0 c.in-Given.is,
+      ranked_within (length a.text.now) a.at _ _ _ _ _ _ _ _ _ _ _ c.sign_due-word.ensures.1 c.in-Found.is
+          c.number_due-rank.ensures.1 c.in-Found-rank.is c.from_at-rights.ensures.1 c.in-Given.is low,
     )
 
 returns_5 : tie.Need-returns-in-Fault
 returns_5 c =
-    let call = number_at c.before.before.before in
-    let a = (sign_at call).args in (
-      ranked_broken a.text.now a.q a.at _ _ _ _ _ _ _ _ _ _ (sign_at call).sign_due-word.ensures.0 (word_at call).in-Found.is
-          call.number_due-rank.ensures.0 (rank_at_law c.before.before.before).in-Found-rank.is c.if-n.false c.from_at-rights.ensures.0
+    let a = c.args in (
+      ranked_broken a.text.now a.q a.at _ _ _ _ _ _ _ _ _ _ c.sign_due-word.ensures.0 c.in-Found.is
+          c.number_due-rank.ensures.0 c.in-Found-rank.is c.if-n.false c.from_at-rights.ensures.0
           c.in-Fault.is,
       tt,
     )

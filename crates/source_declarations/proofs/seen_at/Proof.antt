@@ -5,11 +5,10 @@ use Rattle.source_declarations.proofs.seen_at.Statement.{statement}
 use Rattle.source_declarations.proofs.seen_at.Tie as tie
 
 returns : tie.Need-returns-in_default
-returns c =
-    (
-      seen_unsaid c.args.text.now c.args.at _ _ c.sign_due-seen.ensures.0 c.in_default.is,
-      (omega arith, omega arith, omega arith),
-    )
+returns c = (
+  seen_unsaid c.args.text.now c.args.at _ _ c.sign_due-seen.ensures.0 c.in_default.is,
+  (omega arith, omega arith, omega arith),
+)
 
 sign_due_requires_2 : tie.Need-sign_due-by-requires
 sign_due_requires_2 c κs =
@@ -17,12 +16,11 @@ sign_due_requires_2 c κs =
     (omega arith, (omega arith, (omega arith, omega arith)))
 
 returns_2 : tie.Need-returns-in_default-by
-returns_2 c =
-    (
-      seen_broken c.args.text.now c.args.at _ _ _ _ _ _ _ c.sign_due-seen.ensures.0 c.in-Found.is
-          c.sign_due-by.ensures.0 c.in_default-by.field-0.1 c.fault_in.ensures,
-      tt,
-    )
+returns_2 c = (
+  seen_broken c.args.text.now c.args.at _ _ _ _ _ _ _ c.sign_due-seen.ensures.0 c.in-Found.is
+      c.sign_due-by.ensures.0 c.in_default-by.is c.fault_in.ensures,
+  tt,
+)
 
 players_at_requires : tie.Need-players_at-requires
 players_at_requires c κs =
@@ -30,13 +28,12 @@ players_at_requires c κs =
     (omega arith, omega arith)
 
 returns_3 : tie.Need-returns
-returns_3 c =
-    (
-      seen_said c.args.text.now c.args.at _ _ _ _ _ _ _ _ c.players_at.result c.sign_due-seen.ensures.0 c.in-Found.is
-          c.sign_due-by.ensures.0 c.in-Found-by.is c.players_at.ensures.0,
-      seen_later (length c.args.text.now) c.args.at _ _ _ _ _ _ _ _ c.players_at.result c.sign_due-seen.ensures.1
-          c.in-Found.is c.sign_due-by.ensures.1 c.in-Found-by.is c.players_at.ensures.1,
-    )
+returns_3 c = (
+  seen_said c.args.text.now c.args.at _ _ _ _ _ _ _ _ c.players_at.result c.sign_due-seen.ensures.0 c.in-Found.is
+      c.sign_due-by.ensures.0 c.in-Found-by.is c.players_at.ensures.0,
+  seen_later (length c.args.text.now) c.args.at _ _ _ _ _ _ _ _ c.players_at.result c.sign_due-seen.ensures.1
+      c.in-Found.is c.sign_due-by.ensures.1 c.in-Found-by.is c.players_at.ensures.1,
+)
 
 pub seen_at_spec : {M : Type 1} → statement M
 seen_at_spec =
