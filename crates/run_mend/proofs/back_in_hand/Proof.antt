@@ -22,32 +22,31 @@ module _ (l : List ℕ) {f : ℕ} (p : f ≡ running_flag l) where
   together h q r s e g = rw (← p, ne_eqb f 0 h, ← q, ← r, ← s, ← e) g
 
 -- where the count is read
-module _ (c : tie.After-get-word2) where
-  abbrev runs_at : tie.Else1
+module _ (c : tie.After-get_word-waiting) where
+  abbrev runs_at : tie.Else-get_word-eq0
   runs_at = c.before.before
 
-  has_room : c.get-word2.result ≤ 63
+  has_room : c.get_word-waiting.result ≤ 63
   has_room =
-      room _ runs_at.before.get-word.ensures c.get-word2.ensures
-      runs_at.before.before.before.before.pre.1 runs_at.if1.left
+      room _ runs_at.get_word.ensures c.get_word-waiting.ensures
+      runs_at.pre.1 runs_at.if-get_word-eq0.left
 
 -- back from the slot written to where the count is read
-abbrev count_at : tie.After-put-slot → tie.After-get-word2
+abbrev count_at : tie.After-put_slot → tie.After-get_word-waiting
 count_at c = c.before.before.before.before.before.before
 
-returns_2 : tie.Need-returns-2
+returns_2 : tie.Need-returns
 returns_2 c =
-    let slot = c.before.before.before.before.before.before in
-    let count = count_at slot in
-    together _ (runs_at count).before.get-word.ensures (runs_at count).if1.left count.get-word2.ensures
-    slot.before.before.before.before.get-word3.ensures slot.before.before.get-word4.ensures
-    slot.put-slot.ensures c.before.before.put_word.ensures
+    let count = count_at c.before.before.before.before.before.before in
+    together _ (runs_at count).get_word.ensures (runs_at count).if-get_word-eq0.left count.get_word-waiting.ensures
+    c.get_word-number.ensures c.get_word-word.ensures
+    c.put_slot.ensures c.put_word.ensures
 
 pub back_in_hand_spec : {M : Type 1} → statement M
 back_in_hand_spec =
     tie.close
     (tie.spec (search rules) (search rules)
-    (λ c. none _ c.before.get-word.ensures c.if1.true)
+    (λ c. none _ c.get_word.ensures c.if-get_word-eq0.true)
     (search rules) (search rules) (search rules) (search rules)
     (λ c κs. let h = has_room c.before.before.before.before.before in search rules)
     (λ c. let h = has_room (count_at c.before.before.before) in omega arith)

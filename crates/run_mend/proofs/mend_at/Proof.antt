@@ -53,101 +53,93 @@ as_long : (m : List ℕ) → length m ≡ length (replicate {A = ℕ} 2048 0) �
 as_long m e = rw (e, length-replicate {A = ℕ} 2048 0) (omega arith)
 
 -- where round and tables are good
-module _ (c : tie.Else2) where
-  abbrev ours_at : tie.Else1
+module _ (c : tie.Else-not-table_fits) where
+  abbrev ours_at : tie.Else-not-is_ours
   ours_at = c.before.before
 
   abbrev entry : tie.Start
-  entry = ours_at.before.before.before.before.before.before
+  entry = ours_at.before.before.before.before.before
 
   valid : Bounds entry.args.old.now entry.args.round.now
-  valid = ours_at.before.is_ours.ensures.1 (not-false _ ours_at.if1.left)
+  valid = ours_at.is_ours.ensures.1 (not-false _ ours_at.if-not-is_ours.left)
 
   new_valid : TableBounds entry.args.table.now
-  new_valid = c.before.table_fits.ensures.1 (not-false _ c.if2.false)
+  new_valid = c.table_fits.ensures.1 (not-false _ c.if-not-table_fits.false)
 
   inside : {r : CallResult} → r ≡ mend_in entry.args.old.now entry.args.table.now entry.args.round.now
       → r ≡ mend_on entry.args.old.now entry.args.table.now entry.args.round.now
   inside =
-      opened _ _ _ ours_at.before.is_ours.ensures.0 (not-false _ ours_at.if1.left)
-      c.before.table_fits.ensures.0 (not-false _ c.if2.false)
+      opened _ _ _ ours_at.is_ours.ensures.0 (not-false _ ours_at.if-not-is_ours.left)
+      c.table_fits.ensures.0 (not-false _ c.if-not-table_fits.false)
 
 -- where the values are worked out
-module _ (c : tie.Else3) where
-  abbrev good_at : tie.Else2
+module _ (c : tie.Else-answer-ne0) where
+  abbrev good_at : tie.Else-not-table_fits
   good_at = c.before.before.before.before.before
 
-  values_long : 2048 ≤ length c.before.before.carry-on.new.1.1.1.0
+  values_long : 2048 ≤ length c.carry_on-answer.new.1.1.1.0
   values_long =
-      let call = c.before.before.carry-on in as_long call.new.1.1.1.0 call.auto.1.1.1.0
+      let call = c.carry_on-answer in as_long call.new.1.1.1.0 call.auto.1.1.1.0
 
 -- back from where the hand is whole to where the values are worked out
-abbrev worked_at : tie.After-back-in-hand → tie.Else3
+abbrev worked_at : tie.After-back_in_hand → tie.Else-answer-ne0
 worked_at c = c.before.before.before.before.before.before.before.before
 
-hand_known_requires : tie.Need-hand-known-requires
+hand_known_requires : tie.Need-hand_known-requires
 hand_known_requires c κs =
     let b = valid (good_at c.before.before.before.before) in
     let d = new_valid (good_at c.before.before.before.before) in
     search rules
 
-back_in_hand_requires : tie.Need-back-in-hand-requires
+back_in_hand_requires : tie.Need-back_in_hand-requires
 back_in_hand_requires c κs =
-    let b = (valid (good_at c.before.before.before.before.before.before.before)).round in
+    let b = (valid (good_at c.before.before.before.before.before.before.before)).round-1 in
     (b.long, b.room)
 
 show_requires : tie.Need-show-requires
 show_requires c κs =
     let worked = worked_at c.before.before.before.before.before.before.before.before in
-    let b = (valid (good_at worked)).round.long in
+    let b = (valid (good_at worked)).round-1.long in
     ((new_valid (good_at worked)).long, values_long worked, search rules)
 
-returns_2 : tie.Need-returns-2
+returns_2 : tie.Need-returns-then-not-table_fits
 returns_2 c =
-    let ours = c.before.before in
-    foreign_table _ _ _ ours.before.is_ours.ensures.0 (not-false _ ours.if1.false)
-    c.before.table_fits.ensures.0 (not-true _ c.if2.true)
+    foreign_table _ _ _ c.is_ours.ensures.0 (not-false _ c.if-not-is_ours.false)
+    c.table_fits.ensures.0 (not-true _ c.if-not-table_fits.true)
 
-returns_3 : tie.Need-returns-3
+returns_3 : tie.Need-returns-then-answer-ne0
 returns_3 c =
     inside c.before.before.before.before.before
-    (foreign_passives _ _ _ c.before.before.carry-on.ensures c.if3.true)
+    (foreign_passives _ _ _ c.carry_on-answer.ensures c.if-answer-ne0.true)
 
-returns_4 : tie.Need-returns-4
+returns_4 : tie.Need-returns-then-copy_back_at
 returns_4 c =
-    let worked = c.before.before.before in
-    inside (good_at worked) (copied_back _ _ _ worked.before.before.carry-on.ensures worked.if3.false
-    c.before.copy-back-at.ensures c.if4.true)
+    inside (good_at c.before.before.before) (copied_back _ _ _ c.carry_on-answer.ensures c.if-answer-ne0.false
+    c.copy_back_at.ensures c.if-copy_back_at.true)
 
-returns_5 : tie.Need-returns-5
+returns_5 : tie.Need-returns-then-not-hand_known
 returns_5 c =
-    let consistent = c.before.before.before in
-    let worked = consistent.before.before.before in
-    inside (good_at worked) (undeclared _ _ _ worked.before.before.carry-on.ensures worked.if3.false
-    consistent.before.copy-back-at.ensures consistent.if4.false c.before.hand_known_law.ensures
-    (not-true _ c.if5.true))
+    inside (good_at c.before.before.before.before.before.before) (undeclared _ _ _ c.carry_on-answer.ensures c.if-answer-ne0.false
+    c.copy_back_at.ensures c.if-copy_back_at.false c.hand_known.ensures
+    (not-true _ c.if-not-hand_known.true))
 
-returns_6 : tie.Need-returns-6
+returns_6 : tie.Need-returns
 returns_6 c =
-    let resting = c.before.before.before.before.before.before.before in
-    let hand = resting.before.before.before.before in
-    let known = hand.before.before in
-    let consistent = known.before.before.before in
-    let worked = worked_at hand in
-    inside (good_at worked) (carried _ _ _ worked.before.before.carry-on.ensures worked.if3.left
-    consistent.before.copy-back-at.ensures consistent.if4.false known.before.hand_known_law.ensures
-    (not-false _ known.if5.false) hand.back-in-hand.ensures resting.rest.ensures
-    c.before.before.show.ensures)
+    let worked = worked_at c.before.before.before.before.before.before.before.before.before.before.before in
+    inside (good_at worked) (carried _ _ _ worked.carry_on-answer.ensures worked.if-answer-ne0.left
+    c.copy_back_at.ensures c.if-copy_back_at.false c.hand_known.ensures
+    (not-false _ c.if-not-hand_known.false) c.back_in_hand.ensures c.rest.ensures
+    c.show.ensures)
 
 pub mend_at_spec : {M : Type 1} → statement M
 unfolding get get_at
 mend_at_spec =
     tie.close
     (tie.spec (search rules) (search rules)
-    (λ c. foreign_round _ _ _ c.before.is_ours.ensures.0 (not-true _ c.if1.true))
+    (λ c. foreign_round _ _ _ c.is_ours.ensures.0 (not-true _ c.if-not-is_ours.true))
     (search rules) (search rules) returns_2 (search rules)
     (λ c κs. let b = valid c.before.before in let d = new_valid c.before.before in search rules)
     (search rules) returns_3 (search rules) (search rules) returns_4 hand_known_requires (search rules) returns_5
     back_in_hand_requires
-    (λ c κs. let b = (valid (good_at (worked_at c.before.before.before))).round.long in search rules)
+    (λ c κs. let b = (valid (good_at (worked_at c.before.before.before))).round-1.long in search rules)
     (search rules) show_requires (search rules) returns_6)

@@ -13,6 +13,6 @@ rest_spec =
     let second = c.before.before.before.before.before.before in
     cc (
       second.before.before.before.before.put_word.ensures,
-      second.put-word2.ensures,
-      c.before.before.put-word3.ensures,
+      second.put_word-2.ensures,
+      c.before.before.put_word-3.ensures,
     )))

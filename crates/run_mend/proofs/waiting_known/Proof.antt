@@ -29,10 +29,10 @@ end : {l : List ℕ} {known n i : ℕ} → Turn l known n i → i ≤ 0 → true
 unfolding waiting_known
 end {l} {known} {n} {i} k h = let z : i ≡ 0 = omega arith in sym (rw z at k.whole)
 
-abbrev invariant-loop : tie.invariant-loop
+abbrev invariant-loop : tie.invariant-loop-i
 invariant-loop l known n i₀ i = Turn l known n i
 
-abbrev decreases-loop : tie.decreases-loop
+abbrev decreases-loop : tie.decreases-loop-i
 decreases-loop l known n i₀ i = i
 
 pub waiting_known_spec : {M : Type 1} → statement M
@@ -47,7 +47,7 @@ waiting_known_spec =
     (λ c. omega arith)
     (λ c. omega arith)
     (λ c κs. omega arith)
-    (λ c. fails c.before.before.before.loop.invariant (omega arith) c.before.event_at_law.ensures c.if1.true)
+    (λ c. fails c.before.before.before.loop-i.invariant (omega arith) c.before.event_at.ensures c.if-event_at-known.true)
     (λ c. omega arith)
-    (λ c. turn c.before.before.before.loop.invariant (omega arith) c.before.event_at_law.ensures (omega arith))
-    (λ c. end c.before.loop.invariant c.loop-test.false))
+    (λ c. turn c.before.before.before.loop-i.invariant (omega arith) c.before.event_at.ensures (omega arith))
+    (λ c. end c.before.loop-i.invariant c.loop-i-test.false))
