@@ -71,71 +71,54 @@ module _ (t l : List ℕ) (k c hand n len : ℕ) {x : ℕ} {m : List ℕ} (r₀ 
 
 -- where all is read: the running event's word, its number, how far it is, where its code starts and how long that is
 module _ (c : tie.After-event_word-length) where
-  abbrev done_at : tie.After-get_word-done
-  done_at = c.before.before.before
-
-  abbrev number_at : tie.After-get_word-number
-  number_at = done_at.before.before
-
-  abbrev word_at : tie.After-get_word-word
-  word_at = number_at.before.before
-
-  abbrev entry : tie.Start
-  entry = word_at.before.before.before.before
-
   abbrev done : ℕ
-  done = done_at.get_word-done.result
+  done = c.get_word-done.result
 
   abbrev start : ℕ
-  start = c.before.event_word-start.result + done
+  start = c.event_word-start.result + done
 
   in_table : done < c.event_word-length.result → start < 4096
   in_table h =
-      in_code _ _ entry.pre.0 entry.pre.3 word_at.get_word-word.ensures c.before.before.event_of-event.ensures
-      c.before.event_word-start.ensures c.event_word-length.ensures h
+      in_code _ _ c.requires.0 c.requires.3 c.get_word-word.ensures c.event_of-event.ensures
+      c.event_word-start.ensures c.event_word-length.ensures h
 
   advances : {r : CallResult} → done < c.event_word-length.result
-      → r ≡ execute_at entry.args.table.now entry.args.round.now start done
-      word_at.get_word-word.result number_at.get_word-number.result c.event_word-length.result
-      → r ≡ advance_left entry.args.table.now entry.args.round.now
+      → r ≡ execute_at c.args.table.now c.args.round.now start done
+      c.get_word-word.result c.get_word-number.result c.event_word-length.result
+      → r ≡ advance_left c.args.table.now c.args.round.now
   advances =
-      opened _ _ word_at.get_word-word.ensures number_at.get_word-number.ensures done_at.get_word-done.ensures
-      c.before.before.event_of-event.ensures c.before.event_word-start.ensures c.event_word-length.ensures
+      opened _ _ c.get_word-word.ensures c.get_word-number.ensures c.get_word-done.ensures
+      c.event_of-event.ensures c.event_word-start.ensures c.event_word-length.ensures
 
 returns : tie.Need-returns-then-length-done
 returns c =
-    let read = c.before in
-    over _ _ (word_at read).get_word-word.ensures (done_at read).get_word-done.ensures read.before.before.event_of-event.ensures
-    read.event_word-length.ensures c.if-length-done.true
+    over _ _ c.get_word-word.ensures c.get_word-done.ensures c.event_of-event.ensures
+    c.event_word-length.ensures c.if-length-done.true
 
 returns_2 : tie.Need-returns-then-execute_from-ne0
 returns_2 c =
     let left = c.before.before.before.before.before in
-    advances left.before left.if-length-done.false (foreign _ _ _ _ _ _ _ c.before.before.before.execute_from.ensures c.if-execute_from-ne0.true)
+    advances left.before c.if-length-done.false (foreign _ _ _ _ _ _ _ c.execute_from.ensures c.if-execute_from-ne0.true)
 
 returns_3 : tie.Need-returns-then-done-length
 returns_3 c =
-    let more = c.before.before.before.before in
-    let ran = more.before in
-    let left = ran.before.before.before.before.before in
-    advances left.before left.if-length-done.false (goes_on _ _ _ _ _ _ _ ran.before.before.before.execute_from.ensures
-    ran.if-execute_from-ne0.false more.if-done-length.true c.before.before.put_word.ensures)
+    let left = c.before.before.before.before.before.before.before.before.before.before in
+    advances left.before c.if-length-done.false (goes_on _ _ _ _ _ _ _ c.execute_from.ensures
+    c.if-execute_from-ne0.false c.if-done-length.true c.put_word.ensures)
 
 returns_4 : tie.Need-returns
 returns_4 c =
-    let ended = c.before.before.before.before.before.before.before in
-    let ran = ended.before in
-    let left = ran.before.before.before.before.before in
-    advances left.before left.if-length-done.false (commits _ _ _ _ _ _ _ ran.before.before.before.execute_from.ensures
-    ran.if-execute_from-ne0.false ended.if-done-length.false c.before.before.before.before.before.get_word-mark.ensures
-    c.before.before.before.put_word-2.ensures c.commit_of.ensures)
+    let left = c.before.before.before.before.before.before.before.before.before.before.before.before in
+    advances left.before c.if-length-done.false (commits _ _ _ _ _ _ _ c.execute_from.ensures
+    c.if-execute_from-ne0.false c.if-done-length.false c.get_word-mark.ensures
+    c.put_word-2.ensures c.commit_of.ensures)
 
 pub advance_on_spec : {M : Type 1} → statement M
 advance_on_spec =
     tie.close
     (tie.spec (search rules) (search rules) (search rules) (search rules) (search rules) (search rules) (search rules) returns
-    (λ c. omega (arith, in_table c.before.before c.before.if-length-done.false))
+    (λ c. omega (arith, in_table c.before.before c.if-length-done.false))
     (search rules)
-    (λ c κs. let h = in_table c.before.before c.before.if-length-done.false in let p = (entry c.before.before).pre in omega (arith, p.0.long, p.1, p.2))
+    (λ c κs. let h = in_table c.before.before c.if-length-done.false in let p = c.requires in omega (arith, p.0.long, p.1, p.2))
     (search rules) returns_2 (search rules) (search rules) (search rules) (search rules) returns_3
     (search rules) (search rules) (search rules) (search rules) returns_4)
