@@ -1,8 +1,8 @@
 -- A text whose brackets do not match is no formula: in what the grammar derives they match, by induction on the
 -- derivation, whatever stands behind it and however many are open before it (`even_derived`).
-use Rattle.lib_base.proofs.Prelude.{ℕ, ◌≤◌, ◌<◌, ◌+◌, ◌-◌, ◌≡◌, refl, ◌∙◌, sym, ap, true, false, Bool, true≢false, not}
+use Rattle.lib_base.proofs.Prelude.{ℕ, ◌≤◌, ◌<◌, ◌+◌, ◌-◌, ◌≡◌, refl, ◌∙◌, sym, ap, true, false, Bool, true≢false}
 use Rattle.lib_base.proofs.Prelude.{List, [], ◌∷◌, ◌++◌, map, append_assoc, append-nil, length, get_or, drop}
-use Rattle.lib_base.proofs.Prelude.{drop_of_length-le, drop-cons, eqb, add-one, ne_eqb, not-true, arith}
+use Rattle.lib_base.proofs.Prelude.{drop_of_length-le, drop-cons, eqb, add-one, ne_eqb, arith}
 use Rattle.lib_base.specs.Basics.{pick, All}
 use Rattle.lib_signature.specs.Numbers.{not_fn, if_fn}
 use Rattle.spec_language.specs.Syntax.{Expr}
@@ -111,7 +111,7 @@ uneven buffer ts (parsed e []) s h =
     absurd (true≢false (sym b ∙ h))
 uneven buffer ts (parsed e (t ∷ rest)) s h = refl
 
-pub unbalanced : (cs buffer : List ℕ) (b : Bool) → b ≡ balanced_from 1 cs → not b ≡ true → Translated cs buffer (answered no_formula buffer)
+pub unbalanced : (cs buffer : List ℕ) (b : Bool) → b ≡ balanced_from 1 cs → b ≡ false → Translated cs buffer (answered no_formula buffer)
 unbalanced cs buffer b e f ts fine x =
     uneven buffer ts (read_at 6 (length ts) ts) (reads_only 6 (length ts) ts)
-    (sym (even_codes 1 ts fine) ∙ ap (balanced_from 1) (sym x) ∙ sym e ∙ not-true b f)
+    (sym (even_codes 1 ts fine) ∙ ap (balanced_from 1) (sym x) ∙ sym e ∙ f)

@@ -5,44 +5,44 @@ use Rattle.text_translate.proofs.Laws.{too_long, no_tokens, from_text}
 use Rattle.text_translate.proofs.translate_at.Statement.{statement}
 use Rattle.text_translate.proofs.translate_at.Tie as tie
 
-returns : tie.Need-returns
+returns : tie.Need-returns-then-text-gt-FORMULA_BYTES
 returns c =
-    let at_entry_lem = c.before.before.before in
-    too_long at_entry_lem.args.text.now at_entry_lem.args.buffer.now c.if1.true
+    let at_entry_lem = c in
+    too_long at_entry_lem.args.text.now at_entry_lem.args.buffer.now c.if-text-gt-FORMULA_BYTES.true
 
-returns_2 : tie.Need-returns-2
+returns_2 : tie.Need-returns-in_default
 returns_2 c =
-    let at_scan = c.before.before.before in
-    let at_if1 = at_scan.before.before in
-    let at_entry_lem = at_if1.before.before.before in
-    no_tokens at_entry_lem.args.text.now at_entry_lem.args.buffer.now at_if1.if1.false
-    (scans_none at_entry_lem.args.text.now at_scan.scan.new.1.0 _ c.enum_told.given.1 at_scan.scan.ensures)
+    let at_scan = c in
+    let at_if1 = at_scan in
+    let at_entry_lem = at_if1 in
+    no_tokens at_entry_lem.args.text.now at_entry_lem.args.buffer.now at_if1.if-text-gt-FORMULA_BYTES.false
+    (scans_none at_entry_lem.args.text.now at_scan.scan-s.new.tokens _ c.in_default.is at_scan.scan-s.ensures)
 
-part_from_tokens_end : tie.Need-slice-bounds-from-tokens-end
+part_from_tokens_end : tie.Need-slice_bounds-from_tokens-end
 part_from_tokens_end c =
-    let at_s = c.before.before in
-    let at_scan = at_s.before.before.before in
-    let at_entry_lem = at_scan.before.before.before.before.before in
-    let h = scans_held at_entry_lem.args.text.now at_scan.scan.new.1.0 _ _ at_s.s.given.1 at_scan.scan.ensures in
-    omega (arith, h.few, at_scan.scan.auto.1.0)
+    let at_s = c in
+    let at_scan = at_s in
+    let at_entry_lem = at_scan in
+    let h = scans_held at_entry_lem.args.text.now at_scan.scan-s.new.tokens _ _ at_s.in-Tokens.is at_scan.scan-s.ensures in
+    omega (arith, h.few, at_scan.scan-s.auto.tokens)
 
-from_tokens_requires : tie.Need-from-tokens-requires
+from_tokens_requires : tie.Need-from_tokens-requires
 from_tokens_requires c κs =
-    let at_s = c.before.before.before.before in
-    let at_scan = at_s.before.before.before in
-    let at_entry_lem = at_scan.before.before.before.before.before in
-    let h = scans_held at_entry_lem.args.text.now at_scan.scan.new.1.0 _ _ at_s.s.given.1 at_scan.scan.ensures in
+    let at_s = c in
+    let at_scan = at_s in
+    let at_entry_lem = at_scan in
+    let h = scans_held at_entry_lem.args.text.now at_scan.scan-s.new.tokens _ _ at_s.in-Tokens.is at_scan.scan-s.ensures in
     simp (length-take, length-drop) (omega (arith, h.few))
 
-returns_3 : tie.Need-returns-3
+returns_3 : tie.Need-returns
 returns_3 c =
-    let at_from_tokens = c.before.before in
-    let at_s = at_from_tokens.before.before.before.before.before in
-    let at_scan = at_s.before.before.before in
-    let at_if1 = at_scan.before.before in
-    let at_entry_lem = at_if1.before.before.before in
-    from_text at_entry_lem.args.text.now at_entry_lem.args.buffer.now at_scan.scan.new.1.0 _ _
-    at_if1.if1.false (scans_held at_entry_lem.args.text.now at_scan.scan.new.1.0 _ _ at_s.s.given.1 at_scan.scan.ensures) at_from_tokens.from-tokens.ensures
+    let at_from_tokens = c in
+    let at_s = at_from_tokens in
+    let at_scan = at_s in
+    let at_if1 = at_scan in
+    let at_entry_lem = at_if1 in
+    from_text at_entry_lem.args.text.now at_entry_lem.args.buffer.now at_scan.scan-s.new.tokens _ _
+    at_if1.if-text-gt-FORMULA_BYTES.false (scans_held at_entry_lem.args.text.now at_scan.scan-s.new.tokens _ _ at_s.in-Tokens.is at_scan.scan-s.ensures) at_from_tokens.from_tokens.ensures
 
 pub translate_at_spec : {M : Type 1} → statement M
 translate_at_spec =
