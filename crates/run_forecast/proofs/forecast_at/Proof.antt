@@ -1,5 +1,5 @@
 -- Each return is one branch of the definition: a law for each, over what was read.
-use Rattle.lib_base.proofs.Prelude.{ℕ, ◌+◌, ◌≡◌, true, false, Bool, ◌≢◌, List, ne_eqb, not-true, not-false, rules}
+use Rattle.lib_base.proofs.Prelude.{ℕ, ◌+◌, ◌≡◌, true, false, Bool, ◌≢◌, List, ne_eqb, rules}
 use Rattle.spec_language.specs.Refusals as refusals
 use Rattle.format_layout.specs.Layout.{event_count, waiting_count, running_flag}
 use Rattle.format_layout.specs.Foreign.{ours}
@@ -27,12 +27,12 @@ module _ (t l : List ℕ) {x : Bool} (p : x ≡ ours t l) where
 -- the round is ours, so its bounds hold
 valid : (c : tie.Else-not-is_ours) → Bounds c.before.before.before.before.args.table.now
     c.before.before.before.before.args.round.now
-valid c = c.before.is_ours.ensures.1 (not-false _ c.if-not-is_ours.false)
+valid c = c.before.is_ours.ensures.1 c.if-not-is_ours.false
 
 returns_2 : tie.Need-returns-then-get_word-eq0
 returns_2 c =
     let ours = c.before.before.before.before in
-    none_runs _ _ ours.before.is_ours.ensures.0 (not-false _ ours.if-not-is_ours.false)
+    none_runs _ _ ours.before.is_ours.ensures.0 ours.if-not-is_ours.false
     c.before.before.before.get_word-waiting.ensures c.before.before.get_word.ensures c.before.if-get_word-eq0.true
     c.steps_in.ensures
 
@@ -40,7 +40,7 @@ returns_3 : tie.Need-returns
 returns_3 c =
     let runs = c.before.before.before in
     let ours = runs.before.before.before in
-    one_runs _ _ ours.before.is_ours.ensures.0 (not-false _ ours.if-not-is_ours.false)
+    one_runs _ _ ours.before.is_ours.ensures.0 ours.if-not-is_ours.false
     runs.before.before.get_word-waiting.ensures runs.before.get_word.ensures runs.if-get_word-eq0.false
     c.before.before.get_word-2.ensures c.before.longest_of-longest.ensures.0 c.bound_of.ensures
 
@@ -48,7 +48,7 @@ pub forecast_at_spec : {M : Type 1} → statement M
 forecast_at_spec =
     tie.close
     (tie.spec (search rules)
-    (λ c. foreign _ _ c.before.is_ours.ensures.0 (not-true _ c.if-not-is_ours.true))
+    (λ c. foreign _ _ c.before.is_ours.ensures.0 c.if-not-is_ours.true)
     (λ c κs. let b = valid c in search rules)
     (λ c κs. let b = valid c.before in search rules)
     (search rules)
