@@ -18,10 +18,9 @@ cell_number_spec =
     omega arith)
     (λ c. search rules)
     (λ c. search rules)
-    (λ c.
-    (
-      cell_unclosed _ _ _ _ _ _ _ _ c.number_due-number.ensures.0 c.in-Found.is c.sign_due-bracket.ensures.0 c.in_default-bracket.field-0.1,
-      (let h = rw c.in_default-bracket.field-0.1 at c.sign_due-bracket.ensures.1 in rw c.in_default-bracket.field-0.1 h),
+    (λ c. (
+      cell_unclosed _ _ _ _ _ _ _ _ c.number_due-number.ensures.0 c.in-Found.is c.sign_due-bracket.ensures.0 c.in_default-bracket.is,
+      (let h = rw c.in_default-bracket.is at c.sign_due-bracket.ensures.1 in rw c.in_default-bracket.is h),
     ))
     (λ c.
     let h = rw c.in-Found.is at c.number_due-number.ensures.1 in

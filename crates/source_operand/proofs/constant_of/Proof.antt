@@ -11,15 +11,15 @@ constant_of_spec =
     (λ c κs. search rules)
     (λ c. search rules)
     (λ c.
-    let d = rw c.in-Found.in-Found.word at c.value_of_lem.ensures.1 in
+    let d = rw c.in-Found.is at c.value_of.ensures.1 in
     omega (arith, d.3))
     (λ c κs. search rules)
     (λ c. search rules)
     (λ c. search rules)
     (λ c. search rules)
     (λ c.
-    let h = constant_read _ _ _ _ _ _ _ _ _ c.value_of_lem.ensures.0 c.in-Found.in-Found.word c.value_of_lem.ensures.1 c.put_word_field.ensures in
-    (h.0, (h.1.0, (h.1.1, c.put_word_field.auto.0))))
+    let h = constant_read _ _ _ _ _ _ _ _ _ c.value_of.ensures.0 c.in-Found.is c.value_of.ensures.1 c.put_word_field.ensures in
+    (h.0, (h.1.0, (h.1.1, c.put_word_field.auto.out))))
     (λ c.
-    let h = constant_misread _ _ _ _ _ _ c.value_of_lem.ensures.0 c.in-Fault.in-Fault.is in
+    let h = constant_misread _ _ c.args.n _ c.args.out.now _ c.value_of.ensures.0 c.in-Fault.is in
     (h.0, (h.1.0, (h.1.1, refl)))))

@@ -1,5 +1,6 @@
 -- A name, or a cell of it where `[` follows: what is due is read, and the leaf written.
 use Rattle.lib_base.proofs.Prelude.{refl, rules, arith}
+use Rattle.source_names.specs.Known.{meaning_by}
 use Rattle.source_operand.proofs.Leaves.{name_read, cell_misread, cell_read}
 use Rattle.source_operand.proofs.named_at.Statement.{statement}
 use Rattle.source_operand.proofs.named_at.Tie as tie
@@ -8,7 +9,7 @@ returns : tie.Need-returns-in_default
 returns c =
     let h = name_read _ _ _ _ _ _ _ _ c.requires.1 _ _ c.name_leaf.result _ _ c.bracket_at-bracket.ensures.0 c.in_default.is
     (rw c.meaning_of-meaning.ensures.0 at c.name_leaf.ensures.0) c.put_leaf.ensures.0 c.put_leaf.ensures.1 in
-    (h.0, (h.1.0, (h.1.1, c.put_leaf.auto.1.1.0)))
+    (h.0, (h.1.0, (h.1.1, c.put_leaf.auto.out)))
 
 cell_number_requires : tie.Need-cell_number-requires
 cell_number_requires c κs =
@@ -27,16 +28,17 @@ put_leaf_requires_2 c κs =
 returns_2 : tie.Need-returns-in-Found-cell_number
 returns_2 c =
     let f = rw c.in-Found.is at c.bracket_at-bracket.ensures.1 in
-    let g = rw c.in-Found-cell_number.in-Found-cell_number.k at c.cell_number.ensures.1 in
+    let g = rw c.in-Found-cell_number.is at c.cell_number.ensures.1 in
     let h = cell_read _ _ _ _ _ _ _ _ c.requires.1 _ _ _ _ c.bracket_at-bracket.ensures.0 c.in-Found.is _ _ _ _ c.cell_leaf.result _ _
-    c.cell_number.ensures.0 c.in-Found-cell_number.in-Found-cell_number.k (omega arith)
+    c.cell_number.ensures.0 c.in-Found-cell_number.is (omega arith)
     (rw c.meaning_of-meaning.ensures.0 at c.cell_leaf.ensures.0) c.put_leaf-in-Found-cell_number.ensures.0 c.put_leaf-in-Found-cell_number.ensures.1 in
-    (h.0, (h.1.0, (h.1.1, c.put_leaf-in-Found-cell_number.auto.1.1.0)))
+    (h.0, (h.1.0, (h.1.1, c.put_leaf-in-Found-cell_number.auto.out)))
 
 returns_3 : tie.Need-returns-in-Fault
 returns_3 c =
-    let h = cell_misread _ _ _ _ _ _ _ _ c.requires.1 _ _ _ _ c.bracket_at-bracket.ensures.0 c.in-Found.is _ _
-    c.cell_number.ensures.0 c.in-Fault.in-Fault.is in
+    let a = c.args in
+    let h = cell_misread _ (meaning_by a.text.now a.places.now a.cursor.sorted a.meanings.now) a.cursor.cells _ _ a.cursor.end _ a.out.now c.requires.1 _ _ _ _ c.bracket_at-bracket.ensures.0 c.in-Found.is _ _
+    c.cell_number.ensures.0 c.in-Fault.is in
     (h.0, (h.1.0, (h.1.1, refl)))
 
 pub named_at_spec : {M : Type 1} → statement M
