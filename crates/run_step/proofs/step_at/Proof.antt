@@ -5,19 +5,19 @@ use Rattle.run_step.proofs.Rule.{foreign}
 use Rattle.run_step.proofs.step_at.Statement.{statement}
 use Rattle.run_step.proofs.step_at.Tie as tie
 
-is_outranked_requires : tie.Need-is-outranked-requires
-is_outranked_requires c κs = ours_sound _ _ (sym c.before.before.is_ours.ensures.0 ∙ not-false _ c.before.if1.false)
+is_outranked_requires : tie.Need-is_outranked-outranked-requires
+is_outranked_requires c κs = ours_sound _ _ (sym c.is_ours.ensures.0 ∙ not-false _ c.if-not-is_ours.false)
 
-step_on_requires : tie.Need-step-on-requires
+step_on_requires : tie.Need-step_on-requires
 step_on_requires c κs = (
-  ours_sound _ _ (sym c.before.before.before.before.is_ours.ensures.0 ∙ not-false _ c.before.before.before.if1.false),
-  sym c.before.is-outranked.ensures,
+  ours_sound _ _ (sym c.is_ours.ensures.0 ∙ not-false _ c.if-not-is_ours.false),
+  sym c.is_outranked-outranked.ensures,
 )
 
 pub step_at_spec : {M : Type 1} → statement M
 step_at_spec =
     tie.close
     (tie.spec (search rules) (search rules)
-    (λ c. foreign _ _ c.before.is_ours.ensures.0 (not-true _ c.if1.true))
+    (λ c. foreign _ _ c.is_ours.ensures.0 (not-true _ c.if-not-is_ours.true))
     is_outranked_requires step_on_requires (search rules)
-    (λ c. c.before.before.step_on_law.ensures.0))
+    (λ c. c.step_on.ensures.0))
