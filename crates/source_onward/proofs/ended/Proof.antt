@@ -16,11 +16,11 @@ ended_spec =
     omega (arith, c.requires.0))
     (λ c. search rules)
     (λ c κs.
-    let h = rw c.in-Found.in-Found.c at c.sign_due.ensures.1 in
+    let h = rw c.in-Found.is at c.sign_due.ensures.1 in
     omega arith)
     (λ c. search rules)
     (λ c.
-    let h = rw c.in-Found.in-Found.c at c.sign_due.ensures.1 in
-    ended_found _ _ _ _ _ _ c.in-Done.is _ c.sign_due.ensures.0 _ _ _ _ c.in-Found.in-Found.c (omega arith) c.pass_over.ensures)
+    let h = rw c.in-Found.is at c.sign_due.ensures.1 in
+    ended_found _ _ _ _ _ _ c.in-Done.is _ c.sign_due.ensures.0 _ _ _ _ c.in-Found.is (omega arith) c.pass_over.ensures)
     (λ c.
-    ended_missing _ _ _ _ _ _ c.in-Done.is _ c.sign_due.ensures.0 _ c.in-Fault.in-Fault.is))
+    ended_missing _ _ _ _ _ _ c.in-Done.is _ c.sign_due.ensures.0 _ c.in-Fault.is))
