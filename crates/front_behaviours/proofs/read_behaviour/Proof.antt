@@ -6,26 +6,22 @@ use Rattle.front_behaviours.proofs.read_behaviour.Tie as tie
 
 returns : tie.Need-returns-in_default
 returns c = (
-  behaviour_refused _ _ _ _ _ c.before.before.before.before.before.least_tag-lo.ensures
-      c.before.before.before.before.most_tag-hi.ensures c.before.before.before.field_answer-a.ensures.0
-      c.before.in_default.field-0.1 c.refusal_in.ensures,
+  behaviour_refused _ _ _ _ _ c.least_tag-lo.ensures
+      c.most_tag-hi.ensures c.field_answer-a.ensures.0
+      c.in_default.is c.refusal_in.ensures,
   (tt, tt),
 )
 
 returns_2 : tie.Need-returns
 returns_2 c =
-    let at_a = c.before.before.before.before.before.before in
-    let at_entry_lem = at_a.before.before.before.before.before in
-    let h = rw at_a.in-Value.t.1 at at_a.before.before.field_answer-a.ensures.1 in
-    let f = c.before.before.before.before.field_value in
-    let g = c.before.before.read_value in (
-      behaviour_taken _ _ _ _ _ at_a.before.before.before.before.least_tag-lo.ensures
-          at_a.before.before.before.most_tag-hi.ensures at_a.before.before.field_answer-a.ensures.0
-          at_a.in-Value.t.1 f.ensures.0 g.ensures.0,
+    let h = rw c.in-Value.is at c.field_answer-a.ensures.1 in (
+      behaviour_taken _ _ _ _ _ c.least_tag-lo.ensures
+          c.most_tag-hi.ensures c.field_answer-a.ensures.0
+          c.in-Value.is c.field_value.ensures.0 c.read_value.ensures.0,
       (
-        body_read (length at_entry_lem.args.s.now) (length f.result.now) at_entry_lem.args.n g.result
-            g.ensures.1.0 (omega (arith, f.ensures.1.1)),
-        g.ensures.1.1,
+        body_read (length c.args.s.now) (length c.field_value.result.now) c.args.n c.read_value.result
+            c.read_value.ensures.1.0 (omega (arith, c.field_value.ensures.1.1)),
+        c.read_value.ensures.1.1,
       ),
     )
 

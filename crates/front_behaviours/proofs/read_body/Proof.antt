@@ -6,26 +6,24 @@ use Rattle.front_behaviours.proofs.read_body.Tie as tie
 
 returns : tie.Need-returns-in_default
 returns c =
-    handlers_stop _ _ _ _ _ c.before.before.before.before.read_handlers-r.ensures.0 c.in_default.field-0.1
+    handlers_stop _ _ _ _ _ c.read_handlers-r.ensures.0 c.in_default.is
 
 sub_read_ending : tie.Need-slice_bounds-read_ending-count
 sub_read_ending c =
-    let h = rw c.before.in-Done.at.1 at c.before.before.before.before.before.read_handlers-r.ensures.1 in
+    let h = rw c.in-Done.is at c.read_handlers-r.ensures.1 in
     omega arith
 
 part_read_ending_start : tie.Need-slice_bounds-read_ending-start
 part_read_ending_start c =
-    let h = rw c.before.in-Done.at.1 at c.before.before.before.before.before.read_handlers-r.ensures.1 in
+    let h = rw c.in-Done.is at c.read_handlers-r.ensures.1 in
     omega arith
 
 returns_2 : tie.Need-returns
 returns_2 c =
-    let at_r = c.before.before.before.before.before.before in
-    let h = rw at_r.in-Done.at.1 at at_r.before.before.before.before.read_handlers-r.ensures.1 in
-    let g = c.before.before.read_ending in (
-      body_ends _ _ _ _ _ at_r.before.before.before.before.read_handlers-r.ensures.0 at_r.in-Done.at.1
-          g.ensures.0,
-      ended_body _ _ h.2 h.3 (omega arith) g.result g.ensures.1,
+    let h = rw c.in-Done.is at c.read_handlers-r.ensures.1 in (
+      body_ends _ _ _ _ _ c.read_handlers-r.ensures.0 c.in-Done.is
+          c.read_ending.ensures.0,
+      ended_body _ _ h.2 h.3 (omega arith) c.read_ending.result c.read_ending.ensures.1,
     )
 
 pub read_body_spec : {M : Type 1} → statement M

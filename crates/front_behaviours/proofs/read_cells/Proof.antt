@@ -12,10 +12,10 @@ read_cells_spec =
     (λ c. search rules)
     (λ c. search rules)
     (λ c. search rules)
-    (λ c. cells_fault _ _ _ _ _ _ c.before.before.before.before.read_active-r.ensures.0 c.in_default.field-0.1)
+    (λ c. cells_fault _ _ _ _ _ _ c.read_active-r.ensures.0 c.in_default.is)
     (λ c κs. search rules)
     (λ c.
-    let h = rw c.before.before.before.before.before.in-Done.size.1 at c.before.before.before.before.before.before.before.before.before.read_active-r.ensures.1 in
+    let h = rw c.in-Done.is at c.read_active-r.ensures.1 in
     omega arith)
     (λ c. search rules)
-    (λ c. cells_done _ _ _ _ _ _ c.before.before.before.before.before.before.before.before.before.read_active-r.ensures.0 c.before.before.before.before.before.in-Done.size.1 c.before.before.before.before.before.before.before.before.before.read_active-r.ensures.1 c.before.before.copy_row.ensures))
+    (λ c. cells_done _ _ _ _ _ _ c.read_active-r.ensures.0 c.in-Done.is c.read_active-r.ensures.1 c.copy_row.ensures))

@@ -7,26 +7,18 @@ use Rattle.front_behaviours.proofs.read_entry.Statement.{statement}
 use Rattle.front_behaviours.proofs.read_entry.Tie as tie
 
 -- where the expression is read
-module _ (c : tie.In-Done-2) where
-  abbrev call_at : tie.After-read_expr-r
-  call_at = c.before.before.before.before
-
-  abbrev entry : tie.Start
-  entry = call_at.before.before.before.before
-
-  inside : ReadIn (length entry.args.v.now) entry.args.n (Done c.in-Done.size.0.0 c.in-Done.size.0.1.0)
-  inside = rw c.in-Done.size.1 at c.before.before.before.before.read_expr-r.ensures.1
+module _ (c : tie.In-Done) where
+  inside : ReadIn (length c.args.v.now) c.args.n (Done c.in-Done.size c.in-Done.m)
+  inside = rw c.in-Done.is at c.read_expr-r.ensures.1
 
 returns_2 : tie.Need-returns-then-size-v
 returns_2 c =
-    let read = c.before.before in
-    (entry_left _ _ _ _ _ _ (call_at read).read_expr-r.ensures.0 read.in-Done.size.1 c.if-size-v.true, tt)
+    (entry_left _ _ _ _ _ _ c.read_expr-r.ensures.0 c.in-Done.is c.if-size-v.true, tt)
 
 returns_3 : tie.Need-returns
 returns_3 c =
-    let read = c.before.before in
-    let h = inside read in (
-      entry_done _ _ _ _ _ _ (call_at read).read_expr-r.ensures.0 read.in-Done.size.1 c.if-size-v.false,
+    let h = inside c.before in (
+      entry_done _ _ _ _ _ _ c.read_expr-r.ensures.0 c.in-Done.is c.if-size-v.false,
       (omega arith, omega arith, omega arith),
     )
 
@@ -34,13 +26,13 @@ pub read_entry_spec : {M : Type 1} → statement M
 read_entry_spec =
     tie.close
     (tie.spec (search rules) (search rules) (search rules) (search rules)
-    (λ c. entry_fault _ _ _ _ _ _ c.before.before.before.before.read_expr-r.ensures.0 c.in_default.field-0.1)
+    (λ c. entry_fault _ _ _ _ _ _ c.read_expr-r.ensures.0 c.in_default.is)
     (search rules) returns_2
-    (λ c. let h = inside c.before.before in omega arith)
-    (λ c. let h = inside c.before.before in omega arith)
-    (λ c. let h = inside c.before.before in omega arith)
-    (λ c. let h = inside c.before.before in omega arith)
-    (λ c. let h = inside c.before.before in omega arith)
+    (λ c. let h = inside c.before in omega arith)
+    (λ c. let h = inside c.before in omega arith)
+    (λ c. let h = inside c.before in omega arith)
+    (λ c. let h = inside c.before in omega arith)
+    (λ c. let h = inside c.before in omega arith)
     (search rules) (search rules) (search rules)
     (λ c. search rules)
     returns_3)

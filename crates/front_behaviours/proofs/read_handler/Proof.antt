@@ -6,22 +6,19 @@ use Rattle.front_behaviours.proofs.read_handler.Tie as tie
 
 returns : tie.Need-returns-in_default
 returns c = (
-  handler_refused _ _ _ _ _ c.before.before.before.field_answer-a.ensures.0
-      c.before.in_default.field-0.1 c.refusal_in.ensures,
+  handler_refused _ _ _ _ _ c.field_answer-a.ensures.0
+      c.in_default.is c.refusal_in.ensures,
   tt,
 )
 
 returns_2 : tie.Need-returns
 returns_2 c =
-    let at_enum_told = c.before.before.before.before.before in
-    let at_entry_lem = at_enum_told.before.before.before.before in
-    let h = rw at_enum_told.in-Value.field-0.1 at at_enum_told.before.before.field_answer-a.ensures.1 in
-    let f = c.before.before.before.before.field_value in (
-      handler_taken _ _ _ _ _ at_enum_told.before.before.field_answer-a.ensures.0
-          at_enum_told.in-Value.field-0.1 f.ensures.0 c.before.before.read_handler_value.ensures.0,
-      body_read (length at_entry_lem.args.s.now) (length f.result.now) at_entry_lem.args.n
-          c.before.before.read_handler_value.result c.before.before.read_handler_value.ensures.1
-          (omega (arith, f.ensures.1.1)),
+    let h = rw c.in-Value.is at c.field_answer-a.ensures.1 in (
+      handler_taken _ _ _ _ _ c.field_answer-a.ensures.0
+          c.in-Value.is c.field_value.ensures.0 c.read_handler_value.ensures.0,
+      body_read (length c.args.s.now) (length c.field_value.result.now) c.args.n
+          c.read_handler_value.result c.read_handler_value.ensures.1
+          (omega (arith, c.field_value.ensures.1.1)),
     )
 
 pub read_handler_spec : {M : Type 1} → statement M

@@ -8,41 +8,33 @@ use Rattle.front_behaviours.proofs.read_passive.Statement.{statement}
 use Rattle.front_behaviours.proofs.read_passive.Tie as tie
 
 -- where the expression is read
-module _ (c : tie.In-Done-2) where
-  abbrev call_at : tie.After-read_expr-r
-  call_at = c.before.before.before.before
-
-  abbrev entry : tie.Start
-  entry = call_at.before.before.before.before
-
-  inside : ReadIn (length entry.args.v.now) entry.args.n (Done c.in-Done.size.0.0 c.in-Done.size.0.1.0)
-  inside = rw c.in-Done.size.1 at c.before.before.before.before.read_expr-r.ensures.1
+module _ (c : tie.In-Done) where
+  inside : ReadIn (length c.args.v.now) c.args.n (Done c.in-Done.size c.in-Done.m)
+  inside = rw c.in-Done.is at c.read_expr-r.ensures.1
 
 returns_2 : tie.Need-returns
 returns_2 c =
-    let read = c.before.before.before.before.before.before in
-    let h = inside read in
-    let g = c.before.before.read_ending in (
-      passive_ends _ _ _ _ (call_at read).read_expr-r.ensures.0 read.in-Done.size.1 g.ensures.0,
-      ended_body _ _ h.2 h.3 (omega arith) g.result g.ensures.1,
+    let h = inside c.before.before.before.before.before in (
+      passive_ends _ _ _ _ c.read_expr-r.ensures.0 c.in-Done.is c.read_ending.ensures.0,
+      ended_body _ _ h.2 h.3 (omega arith) c.read_ending.result c.read_ending.ensures.1,
     )
 
 pub read_passive_spec : {M : Type 1} → statement M
 read_passive_spec =
     tie.close
     (tie.spec (search rules) (search rules) (search rules) (search rules)
-    (λ c. passive_fault _ _ _ _ c.before.before.before.before.read_expr-r.ensures.0 c.in_default.field-0.1)
-    (λ c. let h = inside c.before in omega arith)
-    (λ c. let h = inside c.before in omega arith)
-    (λ c. let h = inside c.before in omega arith)
-    (λ c. let h = inside c.before in omega arith)
-    (λ c. let h = inside c.before in omega arith)
+    (λ c. passive_fault _ _ _ _ c.read_expr-r.ensures.0 c.in_default.is)
+    (λ c. let h = inside c in omega arith)
+    (λ c. let h = inside c in omega arith)
+    (λ c. let h = inside c in omega arith)
+    (λ c. let h = inside c in omega arith)
+    (λ c. let h = inside c in omega arith)
     (search rules) (search rules) (search rules)
-    (λ c. let h = inside c.before in omega arith)
-    (λ c. let h = inside c.before in omega arith)
+    (λ c. let h = inside c in omega arith)
+    (λ c. let h = inside c in omega arith)
     (search rules) (search rules)
     (λ c κs. simp length-set (omega arith))
     (λ c.
-    rw length-set at c.before.before.read_ending.auto.1.1.0
-    ∙ (call_at c.before.before.before.before.before.before).read_expr-r.kept.1.1.0)
+    rw length-set at c.read_ending.auto.draft
+    ∙ c.read_expr-r.auto.draft)
     returns_2)
