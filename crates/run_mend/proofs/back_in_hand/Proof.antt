@@ -21,24 +21,9 @@ module _ (l : List ℕ) {f : ℕ} (p : f ≡ running_flag l) where
   unfolding back_in_hand
   together h q r s e g = rw (← p, ne_eqb f 0 h, ← q, ← r, ← s, ← e) g
 
--- where the count is read
-module _ (c : tie.After-get_word-waiting) where
-  abbrev runs_at : tie.Else-get_word-eq0
-  runs_at = c.before.before
-
-  has_room : c.get_word-waiting.result ≤ 63
-  has_room =
-      room _ runs_at.get_word.ensures c.get_word-waiting.ensures
-      runs_at.pre.1 runs_at.if-get_word-eq0.left
-
--- back from the slot written to where the count is read
-abbrev count_at : tie.After-put_slot → tie.After-get_word-waiting
-count_at c = c.before.before.before.before.before.before
-
 returns_2 : tie.Need-returns
 returns_2 c =
-    let count = count_at c.before.before.before.before.before.before in
-    together _ (runs_at count).get_word.ensures (runs_at count).if-get_word-eq0.left count.get_word-waiting.ensures
+    together _ c.get_word.ensures c.if-get_word-eq0.false c.get_word-waiting.ensures
     c.get_word-number.ensures c.get_word-word.ensures
     c.put_slot.ensures c.put_word.ensures
 
@@ -48,6 +33,6 @@ back_in_hand_spec =
     (tie.spec (search rules) (search rules)
     (λ c. none _ c.get_word.ensures c.if-get_word-eq0.true)
     (search rules) (search rules) (search rules) (search rules)
-    (λ c κs. let h = has_room c.before.before.before.before.before in search rules)
-    (λ c. let h = has_room (count_at c.before.before.before) in omega arith)
+    (λ c κs. let h = room _ c.get_word.ensures c.get_word-waiting.ensures c.requires.1 c.if-get_word-eq0.false in search rules)
+    (λ c. let h = room _ c.get_word.ensures c.get_word-waiting.ensures c.requires.1 c.if-get_word-eq0.false in omega arith)
     (search rules) (search rules) returns_2)

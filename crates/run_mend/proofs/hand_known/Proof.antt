@@ -1,5 +1,5 @@
 -- Each return is one branch of the definition, over what was read.
-use Rattle.lib_base.proofs.Prelude.{ℕ, ◌≡◌, true, false, Bool, ◌≢◌, List, ltb, ne_eqb, not-true, not-false, rules}
+use Rattle.lib_base.proofs.Prelude.{ℕ, ◌≡◌, true, false, Bool, ◌≢◌, List, ltb, ne_eqb, rules}
 use Rattle.format_layout.specs.Layout.{event_count, waiting_count, running_flag, running_event}
 use Rattle.run_mend.specs.Mending.{waiting_known, known_with, hand_known}
 use Rattle.run_mend.proofs.hand_known.Statement.{statement}
@@ -25,8 +25,8 @@ hand_known_spec =
     (λ c κs. search rules)
     (λ c κs. search rules)
     (λ c κs. search rules)
-    (λ c. one_unknown _ _ c.get_word-known.ensures c.get_word.ensures c.waiting_known.ensures (not-true _ c.if-not-waiting_known.true))
+    (λ c. one_unknown _ _ c.get_word-known.ensures c.get_word.ensures c.waiting_known.ensures c.if-not-waiting_known.true)
     (λ c κs. search rules)
-    (λ c. none_runs _ _ c.get_word-known.ensures c.get_word.ensures c.waiting_known.ensures (not-false _ c.if-not-waiting_known.false) c.get_word-2.ensures c.if-get_word-eq0.true)
+    (λ c. none_runs _ _ c.get_word-known.ensures c.get_word.ensures c.waiting_known.ensures c.if-not-waiting_known.false c.get_word-2.ensures c.if-get_word-eq0.true)
     (λ c κs. search rules)
-    (λ c. one_runs _ _ c.get_word-known.ensures c.get_word.ensures c.waiting_known.ensures (not-false _ c.if-not-waiting_known.false) c.get_word-2.ensures c.if-get_word-eq0.false c.event_at.ensures))
+    (λ c. one_runs _ _ c.get_word-known.ensures c.get_word.ensures c.waiting_known.ensures c.if-not-waiting_known.false c.get_word-2.ensures c.if-get_word-eq0.false c.event_at.ensures))

@@ -1,12 +1,11 @@
 -- Each return is one branch of the definition: a law for each, over what was read. The values are worked out in bytes
 -- that are 0, a stack of depth 0 among them.
 use Rattle.lib_base.proofs.Prelude.{ℕ, ◌≤◌, ◌≡◌, true, false, Bool, ◌≢◌, List, length, replicate, length-replicate}
-use Rattle.lib_base.proofs.Prelude.{ne_eqb, not-true, not-false, rules, arith}
+use Rattle.lib_base.proofs.Prelude.{ne_eqb, rules, arith}
 use Rattle.lib_word.specs.Word.{get, get_at}
 use Rattle.spec_language.specs.Refusals as refusals
 use Rattle.format_layout.specs.Layout.{waiting_count, running_flag, running_number, running_word}
 use Rattle.format_layout.specs.Foreign.{table_fits, ours}
-use Rattle.format_layout.specs.Bounds.{TableBounds, Bounds}
 use Rattle.format_layout.specs.Round.{CallResult, call_result}
 use Rattle.run_carry.specs.Carry.{carry_on, store_shown}
 use Rattle.run_board.specs.Board.{copy_back_on}
@@ -52,83 +51,48 @@ module _ (old t l : List ℕ) {a : ℕ} {m : List ℕ} (e : call_result a m ≡ 
 as_long : (m : List ℕ) → length m ≡ length (replicate {A = ℕ} 2048 0) → 2048 ≤ length m
 as_long m e = rw (e, length-replicate {A = ℕ} 2048 0) (omega arith)
 
--- where round and tables are good
-module _ (c : tie.Else-not-table_fits) where
-  abbrev ours_at : tie.Else-not-is_ours
-  ours_at = c.before.before
-
-  abbrev entry : tie.Start
-  entry = ours_at.before.before.before.before.before
-
-  valid : Bounds entry.args.old.now entry.args.round.now
-  valid = ours_at.is_ours.ensures.1 (not-false _ ours_at.if-not-is_ours.left)
-
-  new_valid : TableBounds entry.args.table.now
-  new_valid = c.table_fits.ensures.1 (not-false _ c.if-not-table_fits.false)
-
-  inside : {r : CallResult} → r ≡ mend_in entry.args.old.now entry.args.table.now entry.args.round.now
-      → r ≡ mend_on entry.args.old.now entry.args.table.now entry.args.round.now
-  inside =
-      opened _ _ _ ours_at.is_ours.ensures.0 (not-false _ ours_at.if-not-is_ours.left)
-      c.table_fits.ensures.0 (not-false _ c.if-not-table_fits.false)
-
--- where the values are worked out
-module _ (c : tie.Else-answer-ne0) where
-  abbrev good_at : tie.Else-not-table_fits
-  good_at = c.before.before.before.before.before
-
-  values_long : 2048 ≤ length c.carry_on-answer.new.1.1.1.0
-  values_long =
-      let call = c.carry_on-answer in as_long call.new.1.1.1.0 call.auto.1.1.1.0
-
--- back from where the hand is whole to where the values are worked out
-abbrev worked_at : tie.After-back_in_hand → tie.Else-answer-ne0
-worked_at c = c.before.before.before.before.before.before.before.before
-
 hand_known_requires : tie.Need-hand_known-requires
 hand_known_requires c κs =
-    let b = valid (good_at c.before.before.before.before) in
-    let d = new_valid (good_at c.before.before.before.before) in
+    let b = c.is_ours.ensures.1 c.if-not-is_ours.false in
+    let d = c.table_fits.ensures.1 c.if-not-table_fits.false in
     search rules
 
 back_in_hand_requires : tie.Need-back_in_hand-requires
 back_in_hand_requires c κs =
-    let b = (valid (good_at c.before.before.before.before.before.before.before)).round-1 in
+    let b = (c.is_ours.ensures.1 c.if-not-is_ours.false).round in
     (b.long, b.room)
 
 show_requires : tie.Need-show-requires
 show_requires c κs =
-    let worked = worked_at c.before.before.before.before.before.before.before.before in
-    let b = (valid (good_at worked)).round-1.long in
-    ((new_valid (good_at worked)).long, values_long worked, search rules)
+    let b = (c.is_ours.ensures.1 c.if-not-is_ours.false).round.long in
+    ((c.table_fits.ensures.1 c.if-not-table_fits.false).long, as_long _ c.carry_on-answer.auto.values, search rules)
 
 returns_2 : tie.Need-returns-then-not-table_fits
 returns_2 c =
-    foreign_table _ _ _ c.is_ours.ensures.0 (not-false _ c.if-not-is_ours.false)
-    c.table_fits.ensures.0 (not-true _ c.if-not-table_fits.true)
+    foreign_table _ _ _ c.is_ours.ensures.0 c.if-not-is_ours.false
+    c.table_fits.ensures.0 c.if-not-table_fits.true
 
 returns_3 : tie.Need-returns-then-answer-ne0
 returns_3 c =
-    inside c.before.before.before.before.before
+    opened _ _ _ c.is_ours.ensures.0 c.if-not-is_ours.false c.table_fits.ensures.0 c.if-not-table_fits.false
     (foreign_passives _ _ _ c.carry_on-answer.ensures c.if-answer-ne0.true)
 
 returns_4 : tie.Need-returns-then-copy_back_at
 returns_4 c =
-    inside (good_at c.before.before.before) (copied_back _ _ _ c.carry_on-answer.ensures c.if-answer-ne0.false
+    opened _ _ _ c.is_ours.ensures.0 c.if-not-is_ours.false c.table_fits.ensures.0 c.if-not-table_fits.false (copied_back _ _ _ c.carry_on-answer.ensures c.if-answer-ne0.false
     c.copy_back_at.ensures c.if-copy_back_at.true)
 
 returns_5 : tie.Need-returns-then-not-hand_known
 returns_5 c =
-    inside (good_at c.before.before.before.before.before.before) (undeclared _ _ _ c.carry_on-answer.ensures c.if-answer-ne0.false
+    opened _ _ _ c.is_ours.ensures.0 c.if-not-is_ours.false c.table_fits.ensures.0 c.if-not-table_fits.false (undeclared _ _ _ c.carry_on-answer.ensures c.if-answer-ne0.false
     c.copy_back_at.ensures c.if-copy_back_at.false c.hand_known.ensures
-    (not-true _ c.if-not-hand_known.true))
+    c.if-not-hand_known.true)
 
 returns_6 : tie.Need-returns
 returns_6 c =
-    let worked = worked_at c.before.before.before.before.before.before.before.before.before.before.before in
-    inside (good_at worked) (carried _ _ _ worked.carry_on-answer.ensures worked.if-answer-ne0.left
+    opened _ _ _ c.is_ours.ensures.0 c.if-not-is_ours.false c.table_fits.ensures.0 c.if-not-table_fits.false (carried _ _ _ c.carry_on-answer.ensures c.if-answer-ne0.false
     c.copy_back_at.ensures c.if-copy_back_at.false c.hand_known.ensures
-    (not-false _ c.if-not-hand_known.false) c.back_in_hand.ensures c.rest.ensures
+    c.if-not-hand_known.false c.back_in_hand.ensures c.rest.ensures
     c.show.ensures)
 
 pub mend_at_spec : {M : Type 1} → statement M
@@ -136,10 +100,10 @@ unfolding get get_at
 mend_at_spec =
     tie.close
     (tie.spec (search rules) (search rules)
-    (λ c. foreign_round _ _ _ c.is_ours.ensures.0 (not-true _ c.if-not-is_ours.true))
+    (λ c. foreign_round _ _ _ c.is_ours.ensures.0 c.if-not-is_ours.true)
     (search rules) (search rules) returns_2 (search rules)
-    (λ c κs. let b = valid c.before.before in let d = new_valid c.before.before in search rules)
+    (λ c κs. let b = c.is_ours.ensures.1 c.if-not-is_ours.false in let d = c.table_fits.ensures.1 c.if-not-table_fits.false in search rules)
     (search rules) returns_3 (search rules) (search rules) returns_4 hand_known_requires (search rules) returns_5
     back_in_hand_requires
-    (λ c κs. let b = (valid (good_at (worked_at c.before.before.before))).round-1.long in search rules)
+    (λ c κs. let b = (c.is_ours.ensures.1 c.if-not-is_ours.false).round.long in search rules)
     (search rules) show_requires (search rules) returns_6)
