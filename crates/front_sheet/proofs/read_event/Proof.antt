@@ -4,27 +4,25 @@ use Rattle.front_sheet.proofs.Laws.{event_refused, event_some, event_taken, even
 use Rattle.front_sheet.proofs.read_event.Statement.{statement}
 use Rattle.front_sheet.proofs.read_event.Tie as tie
 
-returns : tie.Need-returns
+returns : tie.Need-returns-in_default
 returns c = (
-  event_refused _ _ _ c.before.before.before.before.before.least-tag.ensures
-      c.before.before.before.before.most-tag.ensures c.before.before.before.field-answer.ensures.0
-      c.before.enum_told.given.1 c.refusal-in.ensures,
-  event_some _ c.before.before.before.before.before.least-tag.ensures
-      c.before.before.before.before.most-tag.ensures c.before.before.before.field-answer.ensures.0
-      c.before.enum_told.given.1 c.refusal-in.ensures,
+  event_refused _ _ _ c.least_tag-lo.ensures
+      c.most_tag-hi.ensures c.field_answer-a.ensures.0
+      c.in_default.is c.refusal_in.ensures,
+  event_some _ c.least_tag-lo.ensures
+      c.most_tag-hi.ensures c.field_answer-a.ensures.0
+      c.in_default.is c.refusal_in.ensures,
 )
 
-returns_2 : tie.Need-returns-2
+returns_2 : tie.Need-returns
 returns_2 c =
-    let at_a = c.before.before.before.before.before.before in
-    let at_entry_lem = at_a.before.before.before.before.before.before.before in
-    let h = rw at_a.a.given.1 at at_a.before.before.field-answer.ensures.1 in
-    let f = c.before.before.before.before.field-value in (
-      event_taken _ _ _ at_a.before.before.before.before.least-tag.ensures
-          at_a.before.before.before.most-tag.ensures at_a.before.before.field-answer.ensures.0
-          at_a.a.given.1 f.ensures.0 c.before.before.read-priority.ensures.0,
-      event_in (length at_entry_lem.args.s.now) (length f.result.now) at_entry_lem.args.e
-          c.before.before.read-priority.result c.before.before.read-priority.ensures.1
+    let h = rw c.in-Value.is at c.field_answer-a.ensures.1 in
+    let f = c.field_value in (
+      event_taken _ _ _ c.least_tag-lo.ensures
+          c.most_tag-hi.ensures c.field_answer-a.ensures.0
+          c.in-Value.is f.ensures.0 c.read_priority.ensures.0,
+      event_in (length c.args.s.now) (length f.result.now) c.args.e
+          c.read_priority.result c.read_priority.ensures.1
           (omega (arith, f.ensures.1.1)),
     )
 

@@ -4,17 +4,17 @@ use Rattle.front_sheet.proofs.Laws.{EventTurn, event_stops, event_ends, event_tu
 use Rattle.front_sheet.proofs.read_events.Statement.{statement}
 use Rattle.front_sheet.proofs.read_events.Tie as tie
 
-abbrev invariant-loop : tie.invariant-loop
+abbrev invariant-loop : tie.invariant-loop-at
 invariant-loop s draft₀ at₀ e₀ draft at e = EventTurn s draft₀ draft at e
 
-abbrev decreases-loop : tie.decreases-loop
+abbrev decreases-loop : tie.decreases-loop-at
 decreases-loop s draft₀ at₀ e₀ draft at e = length s - at
 
-loop_holds : tie.Need-loop-init invariant-loop decreases-loop
+loop_holds : tie.Need-loop-at-init invariant-loop decreases-loop
 loop_holds c =
-    let pre = c.before.before.requires in
+    let pre = c.requires in
     record {
-      fuel = length c.before.before.args.s.now;
+      fuel = length c.args.s.now;
       whole = refl;
       enough = omega arith;
       reached = omega arith;
@@ -24,63 +24,60 @@ loop_holds c =
     }
 
 -- where an event is read
-abbrev turn_at : tie.After-read-event invariant-loop decreases-loop → tie.At-loop invariant-loop decreases-loop
+abbrev turn_at : tie.After-read_event-r invariant-loop decreases-loop → tie.At-loop-at invariant-loop decreases-loop
 turn_at c = c.before.before.before.before
 
 -- a declared one takes bytes, and those are there
-module _ (c : tie.After-r2 invariant-loop decreases-loop) where
-  abbrev call_at : tie.After-read-event invariant-loop decreases-loop
+module _ (c : tie.In-Declared-2 invariant-loop decreases-loop) where
+  abbrev call_at : tie.After-read_event-r invariant-loop decreases-loop
   call_at = c.before.before.before.before
 
-  further : (0 < c.r2.given.0.0) × ((turn_at call_at).loop.e < 32)
-      × ((turn_at call_at).loop.at + c.r2.given.0.0 ≤ length (turn_at call_at).before.before.before.args.s.now)
+  further : (0 < c.in-Declared.size.0.0) × ((turn_at call_at).loop-at.e < 32)
+      × ((turn_at call_at).loop-at.at + c.in-Declared.size.0.0 ≤ length (turn_at call_at).args.s.now)
   further =
-      let h = rw c.r2.given.1 at c.before.before.before.before.read-event.ensures.1 in
-      omega (arith, (turn_at call_at).loop.inv.reached, call_at.before.before.read-event-arg.given)
+      let h = rw c.in-Declared.is at c.read_event-r.ensures.1 in
+      omega (arith, (turn_at call_at).loop-at.inv.reached, call_at.read_event-arg-1.given)
 
-same_length : tie.Need-same-length invariant-loop decreases-loop
+same_length : tie.Need-shape_of-draft-in-NoEvent invariant-loop decreases-loop
 same_length c =
-    let call = c.before.before.before.before.before in
-    omega (arith, call.read-event.auto.1.1.0, (turn_at call).loop.invariant.kept)
+    omega (arith, c.read_event-r.auto.draft, (turn_at c.before.before.before.before.before).loop-at.invariant.kept)
 
-returns : tie.Need-returns invariant-loop decreases-loop
+returns : tie.Need-returns-in-NoEvent invariant-loop decreases-loop
 returns c =
-    let call = c.before.before.before.before.before in (
-      event_stops (turn_at call).loop.invariant call.before.before.before.loop-test.true
-          call.read-event.ensures.0 c.before.r.given.1,
+    (
+      event_stops (turn_at c.before.before.before.before.before).loop-at.invariant c.loop-at-test.true
+          c.read_event-r.ensures.0 c.in-NoEvent.is,
       tt,
     )
 
-same_length_2 : tie.Need-same-length-2 invariant-loop decreases-loop
+same_length_2 : tie.Need-shape_of-draft-in-Ended invariant-loop decreases-loop
 same_length_2 c =
-    let call = c.before.before.before.before in
-    omega (arith, call.read-event.auto.1.1.0, (turn_at call).loop.invariant.kept)
+    omega (arith, c.read_event-r.auto.draft, (turn_at c.before.before.before.before).loop-at.invariant.kept)
 
-returns_2 : tie.Need-returns-2 invariant-loop decreases-loop
+returns_2 : tie.Need-returns-in-Ended invariant-loop decreases-loop
 returns_2 c =
-    let call = c.before.before.before.before in
-    event_ends (turn_at call).loop.invariant call.before.before.before.loop-test.true
-    call.read-event.ensures.0 c.enum_told.given.1
+    event_ends (turn_at c.before.before.before.before).loop-at.invariant c.loop-at-test.true
+    c.read_event-r.ensures.0 c.in-Ended.is
 
-loop_again : tie.Need-loop-preserved invariant-loop decreases-loop
+loop_again : tie.Need-loop-at-preserved invariant-loop decreases-loop
 loop_again c =
     let call = call_at c.before in
-    let k = call.read-event in
-    event_turns (turn_at call).loop.inv call.before.before.before.loop-test.taken k.ensures.0
-    c.before.r2.given.1 k.ensures.1 k.kept.1.1.0
+    let k = call.read_event-r in
+    event_turns (turn_at call).loop-at.inv call.loop-at-test.taken k.ensures.0
+    c.in-Declared.is k.ensures.1 k.kept.1.1.0
 
 pub read_events_spec : {M : Type 1} → statement M
 read_events_spec =
     tie.close
     (tie.spec invariant-loop decreases-loop loop_holds
-    (λ c. omega (arith, c.before.loop.invariant.reached))
-    (λ c. omega (arith, c.before.loop.invariant.reached))
-    (λ c. omega (arith, c.before.loop.invariant.reached))
-    (λ c κs. let t = c.before.before.before.loop.invariant in omega (arith, t.few, t.kept))
+    (λ c. omega (arith, c.loop-at.invariant.reached))
+    (λ c. omega (arith, c.loop-at.invariant.reached))
+    (λ c. omega (arith, c.loop-at.invariant.reached))
+    (λ c κs. let t = c.loop-at.invariant in omega (arith, t.few, t.kept))
     (search rules) same_length returns (search rules) same_length_2 returns_2 (search rules)
-    (λ c. omega (arith, further c.before, (turn_at (call_at c.before)).loop.inv.room))
+    (λ c. omega (arith, further c.before, (turn_at (call_at c.before)).loop-at.inv.room))
     (λ c. omega (arith, further c.before))
     (λ c. omega (arith, further c.before))
     loop_again
-    (λ c. omega (arith, c.before.loop.invariant.kept))
-    (λ c. events_over c.before.loop.invariant c.loop-test.false))
+    (λ c. omega (arith, c.loop-at.invariant.kept))
+    (λ c. events_over c.loop-at.invariant c.loop-at-test.false))

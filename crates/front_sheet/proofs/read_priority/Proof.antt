@@ -14,4 +14,4 @@ read_priority_spec =
     (λ c. search code depth 12)
     (λ c κs. search rules)
     (λ c. search rules)
-    (λ c. (rw (← c.before.before.take-event.ensures.0) (search code depth 12), c.before.before.take-event.ensures.1)))
+    (λ c. (rw (← c.before.before.take_event.ensures.0) (search code depth 12), c.before.before.take_event.ensures.1)))

@@ -13,9 +13,9 @@ read_program_spec =
     (λ c. search rules)
     (λ c κs. search rules)
     (λ c. search rules)
-    (λ c. program_stops _ _ c.before.before.before.before.before.read-events.ensures.0 c.before.enum_told.given.1 c.fault.ensures)
+    (λ c. program_stops _ _ c.read_events-r.ensures.0 c.in_default.is c.fault.ensures)
     (λ c κs.
-    let h = rw c.before.before.r.given.1 at c.before.before.before.before.before.before.read-events.ensures.1 in
-    omega (arith, c.before.before.before.before.before.before.read-events.auto.1.0))
+    let h = rw c.in-Done.is at c.read_events-r.ensures.1 in
+    omega (arith, c.read_events-r.auto.1.0))
     (λ c. search rules)
-    (λ c. program_goes _ _ c.before.before.before.before.before.before.before.before.before.read-events.ensures.0 c.before.before.before.before.before.r.given.1 c.before.before.read-behaviours.ensures))
+    (λ c. program_goes _ _ c.read_events-r.ensures.0 c.in-Done.is c.read_behaviours.ensures))

@@ -19,7 +19,7 @@ take_event_spec =
     (search rules)
     (λ c. (search code depth 12, (omega arith, omega arith, omega arith)))
     (search rules)
-    (λ c. omega (arith, c.shared-slice-known3.given 1))
+    (λ c. omega (arith, c.shared_slice_known-3-1.given 1))
     (search rules) (search rules)
     (λ c. simp length-set (omega arith))
     (search rules)
