@@ -80,511 +80,346 @@ claims_choice t = (argument_below t, argument.Post, ended-reads.Asked, ended-rea
 abbrev claims_argument : ℕ → argument-lts.Claims
 claims_argument t = (sign-due-reads.Asked, sign-due-reads.Learnt, phrase_below t, phrase.Post, under-reads.Asked, under-reads.Learnt)
 
-argument_enum_known_r : (t : ℕ) → argument-lts.Need-enum-known-r (claims_argument t) (argument_at t) argument.Post
+argument_enum_known_r : (t : ℕ) → argument-lts.Need-enum_known-r (claims_argument t) (argument_at t) argument.Post
 argument_enum_known_r t c = search rules
 
-argument_enum_told : (t : ℕ) → argument-lts.Need-enum-told (claims_argument t) (argument_at t) argument.Post
+argument_enum_told : (t : ℕ) → argument-lts.Need-enum_told-1 (claims_argument t) (argument_at t) argument.Post
 argument_enum_told t c = search rules
 
-argument_returns : (t : ℕ) → argument-lts.Need-returns (claims_argument t) (argument_at t) argument.Post
-argument_returns t c = argument_fault _ _ _ _ _ _ _ _ c.enum_told.given.1
+argument_returns : (t : ℕ) → argument-lts.Need-returns-in_default (claims_argument t) (argument_at t) argument.Post
+argument_returns t c = argument_fault _ _ _ _ _ _ _ _ c.in_default.is
 
-argument_sign_due_requires : (t : ℕ) → argument-lts.Need-sign-due-requires (claims_argument t) (argument_at t) argument.Post
+argument_sign_due_requires : (t : ℕ) → argument-lts.Need-sign_due-requires (claims_argument t) (argument_at t) argument.Post
 argument_sign_due_requires t c κs =
-    let at_r = c.before in
-    let at_entry_lem = at_r.before.before.before.before.before.before in
-    let P = at_entry_lem.requires.1 in
-    let h = rw at_r.r.given.1 at P.0.1 in
+    let P = c.requires.1 in
+    let h = rw c.in-Done.is at P.0.1 in
     (P.0.0, (h.0, (P.1.1.0.1, P.1.1.0.0)))
 
-argument_enum_known_v : (t : ℕ) → argument-lts.Need-enum-known-v (claims_argument t) (argument_at t) argument.Post
+argument_enum_known_v : (t : ℕ) → argument-lts.Need-enum_known-v (claims_argument t) (argument_at t) argument.Post
 argument_enum_known_v t c = search rules
 
-argument_enum_known_p : (t : ℕ) → argument-lts.Need-enum-known-p (claims_argument t) (argument_at t) argument.Post
+argument_enum_known_p : (t : ℕ) → argument-lts.Need-enum_known-p (claims_argument t) (argument_at t) argument.Post
 argument_enum_known_p t c = search rules
 
-argument_sub_inner : (t : ℕ) → argument-lts.Need-overflow-sub-inner (claims_argument t) (argument_at t) argument.Post
+argument_sub_inner : (t : ℕ) → argument-lts.Need-overflow_sub-inner (claims_argument t) (argument_at t) argument.Post
 argument_sub_inner t c =
-    let at_r = c.before.before.before.before.before.before in
-    let at_entry_lem = at_r.before.before.before.before.before.before in
-    omega (arith, at_entry_lem.requires.1.1.1.1.0)
+    omega (arith, c.requires.1.1.1.1.0)
 
-argument_phrase_requires : (t : ℕ) → argument-lts.Need-phrase-requires (claims_argument t) (argument_at t) argument.Post
+argument_phrase_requires : (t : ℕ) → argument-lts.Need-phrase-q-requires (claims_argument t) (argument_at t) argument.Post
 argument_phrase_requires t c κs =
-    let at_p = c.before.before.before in
-    let at_sign = at_p.before.before in
-    let at_r = at_sign.before.before in
-    let at_entry_lem = at_r.before.before.before.before.before.before in
-    let P = at_entry_lem.requires.1 in
-    let h = rw at_r.r.given.1 at P.0.1 in
-    let b = rw at_p.p.given.1 at at_sign.sign-due.ensures.1 in
+    let P = c.requires.1 in
+    let h = rw c.in-Done.is at P.0.1 in
+    let b = rw c.in-Found.in-Found.c at c.sign_due.ensures.1 in
     let few = P.1.0 in
     let room = P.1.1.1 in
-    (omega (arith, at_entry_lem.requires.0, room.0), ((P.0.0, b.2, omega arith, few.0, few.1, few.2), (omega arith, omega (arith, room.0), omega (arith, room.1))))
+    (omega (arith, c.requires.0, room.0), ((P.0.0, b.2, omega arith, few.0, few.1, few.2), (omega arith, omega (arith, room.0), omega (arith, room.1))))
 
 argument_under_requires : (t : ℕ) → argument-lts.Need-under-requires (claims_argument t) (argument_at t) argument.Post
 argument_under_requires t c κs = search rules
 
-argument_returns_2 : (t : ℕ) → argument-lts.Need-returns-2 (claims_argument t) (argument_at t) argument.Post
+argument_returns_2 : (t : ℕ) → argument-lts.Need-returns-in-Fault (claims_argument t) (argument_at t) argument.Post
 argument_returns_2 t c =
-    let at_sign = c.before.before.before in
-    argument_missing _ _ _ _ _ _ _ _ _ _ _ at_sign.before.before.r.given.1 _ at_sign.sign-due.ensures.0 _ c.before.v.given.1
+    argument_missing _ _ _ _ _ _ _ _ _ _ _ c.in-Done.is _ c.sign_due.ensures.0 _ c.in-Fault.in-Fault.is
 
-argument_same_length : (t : ℕ) → argument-lts.Need-same-length (claims_argument t) (argument_at t) argument.Post
+argument_same_length : (t : ℕ) → argument-lts.Need-shape_of-out (claims_argument t) (argument_at t) argument.Post
 argument_same_length t c = search rules
 
-argument_returns_3 : (t : ℕ) → argument-lts.Need-returns-3 (claims_argument t) (argument_at t) argument.Post
+argument_returns_3 : (t : ℕ) → argument-lts.Need-returns-in-Found (claims_argument t) (argument_at t) argument.Post
 argument_returns_3 t c =
-    let at_phrase = c.before.before.before in
-    let at_p = at_phrase.before.before.before.before in
-    let at_sign = at_p.before.before in
-    let at_r = at_sign.before.before in
-    argument_read _ _ _ _ _ _ _ _ _ _ _ at_r.r.given.1 _ at_sign.sign-due.ensures.0 _ _ _ at_p.p.given.1 at_sign.sign-due.ensures.1 _ _ _
-    at_phrase.phrase.ensures c.under.ensures
+    argument_read _ _ _ _ _ _ _ _ _ _ _ c.in-Done.is _ c.sign_due.ensures.0 _ _ _ c.in-Found.in-Found.c c.sign_due.ensures.1 _ _ _
+    c.phrase-q.ensures c.under.ensures
 
-choice_argument_requires : (t : ℕ) → choice-lts.Need-argument-requires (claims_choice t) (choice_at t) choice.Post
+choice_argument_requires : (t : ℕ) → choice-lts.Need-argument-r-requires (claims_choice t) (choice_at t) choice.Post
 choice_argument_requires t c κs =
-    let at_entry_lem = c.before.before.before.before.before in
-    let P = at_entry_lem.requires.1 in
-    (omega (arith, at_entry_lem.requires.0), ((P.0.0, (P.0.1, P.0.2)), ((P.0.3, P.0.4, P.0.5), ((omega arith, omega arith), P.1))))
+    let P = c.requires.1 in
+    (omega (arith, c.requires.0), ((P.0.0, (P.0.1, P.0.2)), ((P.0.3, P.0.4, P.0.5), ((omega arith, omega arith), P.1))))
 
-choice_argument_requires_2 : (t : ℕ) → choice-lts.Need-argument-requires-2 (claims_choice t) (choice_at t) choice.Post
+choice_argument_requires_2 : (t : ℕ) → choice-lts.Need-argument-r-requires-2 (claims_choice t) (choice_at t) choice.Post
 choice_argument_requires_2 t c κs =
-    let at_one = c.before.before.before in
-    let at_entry_lem = at_one.before.before.before.before.before.before in
-    let P = at_entry_lem.requires.1 in
-    let one = at_one.argument.ensures in
-    let g₁ = gone_further _ _ _ _ _ at_entry_lem.args.cursor.at at_entry_lem.args.cursor.end _ _ _ _ one (gone_start _ _ _ _ P.0.1) in
+    let P = c.requires.1 in
+    let one = c.argument-r.ensures in
+    let g₁ = gone_further _ _ _ _ _ c.args.cursor.at c.args.cursor.end _ _ _ _ one (gone_start _ _ _ _ P.0.1) in
     let k₁ = kept_after _ _ _ _ _ _ _ _ _ one in
-    (omega (arith, at_entry_lem.requires.0), ((P.0.0, gone_room _ _ _ _ _ g₁ P.0.2), ((P.0.3, P.0.4, omega (arith, k₁, P.0.5)), ((omega arith, omega arith), P.1))))
+    (omega (arith, c.requires.0), ((P.0.0, gone_room _ _ _ _ _ g₁ P.0.2), ((P.0.3, P.0.4, omega (arith, k₁, P.0.5)), ((omega arith, omega arith), P.1))))
 
-choice_argument_requires_3 : (t : ℕ) → choice-lts.Need-argument-requires-3 (claims_choice t) (choice_at t) choice.Post
+choice_argument_requires_3 : (t : ℕ) → choice-lts.Need-argument-r-requires-3 (claims_choice t) (choice_at t) choice.Post
 choice_argument_requires_3 t c κs =
-    let at_two = c.before.before.before in
-    let at_one = at_two.before.before.before.before in
-    let at_entry_lem = at_one.before.before.before.before.before.before in
-    let P = at_entry_lem.requires.1 in
-    let one = at_one.argument.ensures in
-    let g₁ = gone_further _ _ _ _ _ at_entry_lem.args.cursor.at at_entry_lem.args.cursor.end _ _ _ _ one (gone_start _ _ _ _ P.0.1) in
+    let P = c.requires.1 in
+    let one = c.argument-r.ensures in
+    let g₁ = gone_further _ _ _ _ _ c.args.cursor.at c.args.cursor.end _ _ _ _ one (gone_start _ _ _ _ P.0.1) in
     let k₁ = kept_after _ _ _ _ _ _ _ _ _ one in
-    let two = at_two.argument2.ensures in
-    let g₂ = gone_further _ _ _ _ _ at_entry_lem.args.cursor.at at_entry_lem.args.cursor.end _ _ _ _ two g₁ in
+    let two = c.argument-r-2.ensures in
+    let g₂ = gone_further _ _ _ _ _ c.args.cursor.at c.args.cursor.end _ _ _ _ two g₁ in
     let k₂ = kept_after _ _ _ _ _ _ _ _ _ two in
-    (omega (arith, at_entry_lem.requires.0), ((P.0.0, gone_room _ _ _ _ _ g₂ P.0.2), ((P.0.3, P.0.4, omega (arith, k₁, k₂, P.0.5)), ((omega arith, omega arith), P.1))))
+    (omega (arith, c.requires.0), ((P.0.0, gone_room _ _ _ _ _ g₂ P.0.2), ((P.0.3, P.0.4, omega (arith, k₁, k₂, P.0.5)), ((omega arith, omega arith), P.1))))
 
-choice_ended_requires : (t : ℕ) → choice-lts.Need-ended-requires (claims_choice t) (choice_at t) choice.Post
+choice_ended_requires : (t : ℕ) → choice-lts.Need-ended-r-requires (claims_choice t) (choice_at t) choice.Post
 choice_ended_requires t c κs =
-    let at_three = c.before.before in
-    let at_two = at_three.before.before.before.before in
-    let at_one = at_two.before.before.before.before in
-    let at_entry_lem = at_one.before.before.before.before.before.before in
-    let P = at_entry_lem.requires.1 in
-    let one = at_one.argument.ensures in
-    let g₁ = gone_further _ _ _ _ _ at_entry_lem.args.cursor.at at_entry_lem.args.cursor.end _ _ _ _ one (gone_start _ _ _ _ P.0.1) in
+    let P = c.requires.1 in
+    let one = c.argument-r.ensures in
+    let g₁ = gone_further _ _ _ _ _ c.args.cursor.at c.args.cursor.end _ _ _ _ one (gone_start _ _ _ _ P.0.1) in
     let k₁ = kept_after _ _ _ _ _ _ _ _ _ one in
-    let two = at_two.argument2.ensures in
-    let g₂ = gone_further _ _ _ _ _ at_entry_lem.args.cursor.at at_entry_lem.args.cursor.end _ _ _ _ two g₁ in
+    let two = c.argument-r-2.ensures in
+    let g₂ = gone_further _ _ _ _ _ c.args.cursor.at c.args.cursor.end _ _ _ _ two g₁ in
     let k₂ = kept_after _ _ _ _ _ _ _ _ _ two in
-    let three = at_three.argument3.ensures in
-    let g₃ = gone_further _ _ _ _ _ at_entry_lem.args.cursor.at at_entry_lem.args.cursor.end _ _ _ _ three g₂ in
+    let three = c.argument-r-3.ensures in
+    let g₃ = gone_further _ _ _ _ _ c.args.cursor.at c.args.cursor.end _ _ _ _ three g₂ in
     let k₃ = kept_after _ _ _ _ _ _ _ _ _ three in
     (P.0.0, gone_inside _ _ _ _ _ g₃)
 
-choice_close_requires : (t : ℕ) → choice-lts.Need-close-requires (claims_choice t) (choice_at t) choice.Post
+choice_close_requires : (t : ℕ) → choice-lts.Need-close-r-requires (claims_choice t) (choice_at t) choice.Post
 choice_close_requires t c κs =
-    let at_ended = c.before in
-    let at_three = at_ended.before.before.before in
-    let at_two = at_three.before.before.before.before in
-    let at_one = at_two.before.before.before.before in
-    let at_entry_lem = at_one.before.before.before.before.before.before in
-    let P = at_entry_lem.requires.1 in
-    let one = at_one.argument.ensures in
-    let g₁ = gone_further _ _ _ _ _ at_entry_lem.args.cursor.at at_entry_lem.args.cursor.end _ _ _ _ one (gone_start _ _ _ _ P.0.1) in
+    let P = c.requires.1 in
+    let one = c.argument-r.ensures in
+    let g₁ = gone_further _ _ _ _ _ c.args.cursor.at c.args.cursor.end _ _ _ _ one (gone_start _ _ _ _ P.0.1) in
     let k₁ = kept_after _ _ _ _ _ _ _ _ _ one in
-    let two = at_two.argument2.ensures in
-    let g₂ = gone_further _ _ _ _ _ at_entry_lem.args.cursor.at at_entry_lem.args.cursor.end _ _ _ _ two g₁ in
+    let two = c.argument-r-2.ensures in
+    let g₂ = gone_further _ _ _ _ _ c.args.cursor.at c.args.cursor.end _ _ _ _ two g₁ in
     let k₂ = kept_after _ _ _ _ _ _ _ _ _ two in
-    let three = at_three.argument3.ensures in
-    let g₃ = gone_further _ _ _ _ _ at_entry_lem.args.cursor.at at_entry_lem.args.cursor.end _ _ _ _ three g₂ in
+    let three = c.argument-r-3.ensures in
+    let g₃ = gone_further _ _ _ _ _ c.args.cursor.at c.args.cursor.end _ _ _ _ three g₂ in
     let k₃ = kept_after _ _ _ _ _ _ _ _ _ three in
-    let h = ended_headable _ _ _ _ at_three.argument3.result at_ended.ended.result g₃ at_ended.ended.ensures P.0.2 (omega (arith, P.1.1)) P.0.0 in
+    let h = ended_headable _ _ _ _ c.argument-r-3.result c.ended-r.result g₃ c.ended-r.ensures P.0.2 (omega (arith, P.1.1)) P.0.0 in
     (h, omega (arith, k₁, k₂, k₃, P.0.5))
 
-choice_same_length : (t : ℕ) → choice-lts.Need-same-length (claims_choice t) (choice_at t) choice.Post
+choice_same_length : (t : ℕ) → choice-lts.Need-shape_of-out (claims_choice t) (choice_at t) choice.Post
 choice_same_length t c = search rules
 
-choice_returns : (t : ℕ) → choice-lts.Need-returns (claims_choice t) (choice_at t) choice.Post
+choice_returns : (t : ℕ) → choice-lts.Need-returns-in_default (claims_choice t) (choice_at t) choice.Post
 choice_returns t c =
-    let at_close = c.before.before in
-    let at_ended = at_close.before.before in
-    let at_three = at_ended.before.before.before in
-    let at_two = at_three.before.before.before.before in
-    let at_one = at_two.before.before.before.before in
-    let at_entry_lem = at_one.before.before.before.before.before.before in
-    let P = at_entry_lem.requires.1 in
-    let one = at_one.argument.ensures in
-    let g₁ = gone_further _ _ _ _ _ at_entry_lem.args.cursor.at at_entry_lem.args.cursor.end _ _ _ _ one (gone_start _ _ _ _ P.0.1) in
+    let P = c.requires.1 in
+    let one = c.argument-r.ensures in
+    let g₁ = gone_further _ _ _ _ _ c.args.cursor.at c.args.cursor.end _ _ _ _ one (gone_start _ _ _ _ P.0.1) in
     let k₁ = kept_after _ _ _ _ _ _ _ _ _ one in
-    let two = at_two.argument2.ensures in
-    let g₂ = gone_further _ _ _ _ _ at_entry_lem.args.cursor.at at_entry_lem.args.cursor.end _ _ _ _ two g₁ in
+    let two = c.argument-r-2.ensures in
+    let g₂ = gone_further _ _ _ _ _ c.args.cursor.at c.args.cursor.end _ _ _ _ two g₁ in
     let k₂ = kept_after _ _ _ _ _ _ _ _ _ two in
-    let three = at_three.argument3.ensures in
-    let g₃ = gone_further _ _ _ _ _ at_entry_lem.args.cursor.at at_entry_lem.args.cursor.end _ _ _ _ three g₂ in
+    let three = c.argument-r-3.ensures in
+    let g₃ = gone_further _ _ _ _ _ c.args.cursor.at c.args.cursor.end _ _ _ _ three g₂ in
     let k₃ = kept_after _ _ _ _ _ _ _ _ _ three in
-    choice_read _ _ _ _ _ _ _ _ _ at_three.argument3.result at_ended.ended.result at_ended.ended.ensures _ three _ two _ _ _ one g₃ P.1.0
-    at_close.close.ensures.0 at_close.close.ensures.1 at_close.close.auto.1.1.1.1.1.0
+    choice_read _ _ _ _ _ _ _ _ _ c.argument-r-3.result c.ended-r.result c.ended-r.ensures _ three _ two _ _ _ one g₃ P.1.0
+    c.close-r.ensures.0 c.close-r.ensures.1 c.close-r.auto.1.1.1.1.1.0
 
-abbrev phrase_Inv_loop : phrase-lts.invariant-loop
+abbrev phrase_Inv_loop : phrase-lts.invariant-loop-r
 phrase_Inv_loop text cursor level places meanings out₀ opened₀ r₀ out opened r =
     Keeps text (meaning_by text places cursor.sorted meanings) cursor.cells cursor.room level cursor.at cursor.end out₀ opened₀ r₀ out opened r
 
-abbrev phrase_μ_loop : phrase-lts.decreases-loop
+abbrev phrase_μ_loop : phrase-lts.decreases-loop-r
 phrase_μ_loop text cursor level places meanings out₀ opened₀ r₀ out opened r = bytes_left (length text) r
 
-phrase_brackets_at_requires : (t : ℕ) → phrase-lts.Need-brackets-at-requires (claims_phrase t) (phrase_at t) phrase.Post phrase_Inv_loop phrase_μ_loop
+phrase_brackets_at_requires : (t : ℕ) → phrase-lts.Need-brackets_at-brackets-requires (claims_phrase t) (phrase_at t) phrase.Post phrase_Inv_loop phrase_μ_loop
 phrase_brackets_at_requires t c κs =
-    let at_entry_lem = c.before.before.before.before in
-    let P = at_entry_lem.requires.1 in
+    let P = c.requires.1 in
     (P.0.0, P.0.1)
 
-phrase_primary_requires : (t : ℕ) → phrase-lts.Need-primary-requires (claims_phrase t) (phrase_at t) phrase.Post phrase_Inv_loop phrase_μ_loop
+phrase_primary_requires : (t : ℕ) → phrase-lts.Need-primary-r-requires (claims_phrase t) (phrase_at t) phrase.Post phrase_Inv_loop phrase_μ_loop
 phrase_primary_requires t c κs =
-    let at_brackets = c.before in
-    let at_entry_lem = at_brackets.before.before.before.before.before in
-    let P = at_entry_lem.requires.1 in
-    let b = at_brackets.brackets-at.ensures in
-    (omega (arith, at_entry_lem.requires.0), ((P.0.0, b.within, omega (arith, b.from, P.0.2), P.0.3, P.0.4, P.0.5), (P.1.1, P.1.2, b.begun)))
+    let P = c.requires.1 in
+    let b = c.brackets_at-brackets.ensures in
+    (omega (arith, c.requires.0), ((P.0.0, b.within, omega (arith, b.from, P.0.2), P.0.3, P.0.4, P.0.5), (P.1.1, P.1.2, b.begun)))
 
-phrase_loop_holds : (t : ℕ) → phrase-lts.Need-loop-init (claims_phrase t) (phrase_at t) phrase.Post phrase_Inv_loop phrase_μ_loop
+phrase_loop_holds : (t : ℕ) → phrase-lts.Need-loop-r-init (claims_phrase t) (phrase_at t) phrase.Post phrase_Inv_loop phrase_μ_loop
 phrase_loop_holds t c = record { on = λ o u. u }
 
-phrase_enum_known_r : (t : ℕ) → phrase-lts.Need-enum-known-r (claims_phrase t) (phrase_at t) phrase.Post phrase_Inv_loop phrase_μ_loop
+phrase_enum_known_r : (t : ℕ) → phrase-lts.Need-enum_known-r (claims_phrase t) (phrase_at t) phrase.Post phrase_Inv_loop phrase_μ_loop
 phrase_enum_known_r t c = search rules
 
-phrase_enum_told : (t : ℕ) → phrase-lts.Need-enum-told (claims_phrase t) (phrase_at t) phrase.Post phrase_Inv_loop phrase_μ_loop
+phrase_enum_told : (t : ℕ) → phrase-lts.Need-enum_told-1 (claims_phrase t) (phrase_at t) phrase.Post phrase_Inv_loop phrase_μ_loop
 phrase_enum_told t c = search rules
 
-phrase_same_length : (t : ℕ) → phrase-lts.Need-same-length (claims_phrase t) (phrase_at t) phrase.Post phrase_Inv_loop phrase_μ_loop
+phrase_same_length : (t : ℕ) → phrase-lts.Need-shape_of-out (claims_phrase t) (phrase_at t) phrase.Post phrase_Inv_loop phrase_μ_loop
 phrase_same_length t c =
-    let at_loop = c.before.before in
-    let at_primary = at_loop.before.before.before in
-    let at_brackets = at_primary.before.before in
-    let at_entry_lem = at_brackets.before.before.before.before.before in
-    let P = at_entry_lem.requires.1 in
-    let T = at_loop.loop.invariant.on at_entry_lem.args.out.now (turn_start _ _ _ _ _ _ _ _ _ _ _ P.1.1 at_brackets.brackets-at.ensures _ at_primary.primary.ensures) in
+    let P = c.requires.1 in
+    let T = c.loop-r.invariant.on c.args.out.now (turn_start _ _ _ _ _ _ _ _ _ _ _ P.1.1 c.brackets_at-brackets.ensures _ c.primary-r.ensures) in
     T.kept
 
-phrase_returns : (t : ℕ) → phrase-lts.Need-returns (claims_phrase t) (phrase_at t) phrase.Post phrase_Inv_loop phrase_μ_loop
+phrase_returns : (t : ℕ) → phrase-lts.Need-returns-in_default (claims_phrase t) (phrase_at t) phrase.Post phrase_Inv_loop phrase_μ_loop
 phrase_returns t c =
-    let at_loop = c.before.before in
-    let at_primary = at_loop.before.before.before in
-    let at_brackets = at_primary.before.before in
-    let at_entry_lem = at_brackets.before.before.before.before.before in
-    let P = at_entry_lem.requires.1 in
-    let T = at_loop.loop.invariant.on at_entry_lem.args.out.now (turn_start _ _ _ _ _ _ _ _ _ _ _ P.1.1 at_brackets.brackets-at.ensures _ at_primary.primary.ensures) in
-    turn_fault _ _ _ _ _ _ _ _ _ _ _ T _ c.enum_told.given.1
+    let P = c.requires.1 in
+    let T = c.loop-r.invariant.on c.args.out.now (turn_start _ _ _ _ _ _ _ _ _ _ _ P.1.1 c.brackets_at-brackets.ensures _ c.primary-r.ensures) in
+    turn_fault _ _ _ _ _ _ _ _ _ _ _ T _ c.in_default.is
 
-phrase_onward_at_requires : (t : ℕ) → phrase-lts.Need-onward-at-requires (claims_phrase t) (phrase_at t) phrase.Post phrase_Inv_loop phrase_μ_loop
+phrase_onward_at_requires : (t : ℕ) → phrase-lts.Need-onward_at-requires (claims_phrase t) (phrase_at t) phrase.Post phrase_Inv_loop phrase_μ_loop
 phrase_onward_at_requires t c κs =
-    let at_r = c.before in
-    let at_loop = at_r.before.before in
-    let at_primary = at_loop.before.before.before in
-    let at_brackets = at_primary.before.before in
-    let at_entry_lem = at_brackets.before.before.before.before.before in
-    let P = at_entry_lem.requires.1 in
-    let T = at_loop.loop.invariant.on at_entry_lem.args.out.now (turn_start _ _ _ _ _ _ _ _ _ _ _ P.1.1 at_brackets.brackets-at.ensures _ at_primary.primary.ensures) in
-    (P.0.0, (onward_room _ _ _ _ _ _ _ _ _ _ _ T _ _ _ _ at_r.r.given.1, P.1.0))
+    let P = c.requires.1 in
+    let T = c.loop-r.invariant.on c.args.out.now (turn_start _ _ _ _ _ _ _ _ _ _ _ P.1.1 c.brackets_at-brackets.ensures _ c.primary-r.ensures) in
+    (P.0.0, (onward_room _ _ _ _ _ _ _ _ _ _ _ T _ _ _ _ c.in-Done.is, P.1.0))
 
-phrase_enum_told_2 : (t : ℕ) → phrase-lts.Need-enum-told-2 (claims_phrase t) (phrase_at t) phrase.Post phrase_Inv_loop phrase_μ_loop
+phrase_enum_told_2 : (t : ℕ) → phrase-lts.Need-enum_told-in-Ended (claims_phrase t) (phrase_at t) phrase.Post phrase_Inv_loop phrase_μ_loop
 phrase_enum_told_2 t c = search rules
 
-phrase_same_length_2 : (t : ℕ) → phrase-lts.Need-same-length-2 (claims_phrase t) (phrase_at t) phrase.Post phrase_Inv_loop phrase_μ_loop
+phrase_same_length_2 : (t : ℕ) → phrase-lts.Need-shape_of-out-in-Ended (claims_phrase t) (phrase_at t) phrase.Post phrase_Inv_loop phrase_μ_loop
 phrase_same_length_2 t c =
-    let at_Onward = c.before.before in
-    let at_r = at_Onward.before.before in
-    let at_loop = at_r.before.before in
-    let at_primary = at_loop.before.before.before in
-    let at_brackets = at_primary.before.before in
-    let at_entry_lem = at_brackets.before.before.before.before.before in
-    let P = at_entry_lem.requires.1 in
-    let T = at_loop.loop.invariant.on at_entry_lem.args.out.now (turn_start _ _ _ _ _ _ _ _ _ _ _ P.1.1 at_brackets.brackets-at.ensures _ at_primary.primary.ensures) in
+    let P = c.requires.1 in
+    let T = c.loop-r.invariant.on c.args.out.now (turn_start _ _ _ _ _ _ _ _ _ _ _ P.1.1 c.brackets_at-brackets.ensures _ c.primary-r.ensures) in
     T.kept
 
-phrase_returns_2 : (t : ℕ) → phrase-lts.Need-returns-2 (claims_phrase t) (phrase_at t) phrase.Post phrase_Inv_loop phrase_μ_loop
+phrase_returns_2 : (t : ℕ) → phrase-lts.Need-returns-in-Fault (claims_phrase t) (phrase_at t) phrase.Post phrase_Inv_loop phrase_μ_loop
 phrase_returns_2 t c =
-    let at_Onward = c.before.before in
-    let at_r = at_Onward.before.before in
-    let at_loop = at_r.before.before in
-    let at_primary = at_loop.before.before.before in
-    let at_brackets = at_primary.before.before in
-    let at_entry_lem = at_brackets.before.before.before.before.before in
-    let P = at_entry_lem.requires.1 in
-    let T = at_loop.loop.invariant.on at_entry_lem.args.out.now (turn_start _ _ _ _ _ _ _ _ _ _ _ P.1.1 at_brackets.brackets-at.ensures _ at_primary.primary.ensures) in
-    turn_end _ _ _ _ _ _ _ _ _ _ _ T _ _ _ _ at_r.r.given.1 at_Onward.onward-at.ensures.1 _ c.enum-told2.given.1 at_Onward.onward-at.ensures.0
+    let P = c.requires.1 in
+    let T = c.loop-r.invariant.on c.args.out.now (turn_start _ _ _ _ _ _ _ _ _ _ _ P.1.1 c.brackets_at-brackets.ensures _ c.primary-r.ensures) in
+    turn_end _ _ _ _ _ _ _ _ _ _ _ T _ _ _ _ c.in-Done.is c.onward_at.ensures.1 _ c.in-Ended.is c.onward_at.ensures.0
 
-phrase_enum_known_v : (t : ℕ) → phrase-lts.Need-enum-known-v (claims_phrase t) (phrase_at t) phrase.Post phrase_Inv_loop phrase_μ_loop
+phrase_enum_known_v : (t : ℕ) → phrase-lts.Need-enum_known-v (claims_phrase t) (phrase_at t) phrase.Post phrase_Inv_loop phrase_μ_loop
 phrase_enum_known_v t c = search rules
 
-phrase_same_length_3 : (t : ℕ) → phrase-lts.Need-same-length-3 (claims_phrase t) (phrase_at t) phrase.Post phrase_Inv_loop phrase_μ_loop
+phrase_same_length_3 : (t : ℕ) → phrase-lts.Need-shape_of-out-in-Fault (claims_phrase t) (phrase_at t) phrase.Post phrase_Inv_loop phrase_μ_loop
 phrase_same_length_3 t c =
-    let at_v = c.before in
-    let at_Onward = at_v.before.before in
-    let at_r = at_Onward.before.before in
-    let at_loop = at_r.before.before in
-    let at_primary = at_loop.before.before.before in
-    let at_brackets = at_primary.before.before in
-    let at_entry_lem = at_brackets.before.before.before.before.before in
-    let P = at_entry_lem.requires.1 in
-    let T = at_loop.loop.invariant.on at_entry_lem.args.out.now (turn_start _ _ _ _ _ _ _ _ _ _ _ P.1.1 at_brackets.brackets-at.ensures _ at_primary.primary.ensures) in
+    let P = c.requires.1 in
+    let T = c.loop-r.invariant.on c.args.out.now (turn_start _ _ _ _ _ _ _ _ _ _ _ P.1.1 c.brackets_at-brackets.ensures _ c.primary-r.ensures) in
     T.kept
 
-phrase_returns_3 : (t : ℕ) → phrase-lts.Need-returns-3 (claims_phrase t) (phrase_at t) phrase.Post phrase_Inv_loop phrase_μ_loop
+phrase_returns_3 : (t : ℕ) → phrase-lts.Need-returns-in-Found (claims_phrase t) (phrase_at t) phrase.Post phrase_Inv_loop phrase_μ_loop
 phrase_returns_3 t c =
-    let at_v = c.before in
-    let at_Onward = at_v.before.before in
-    let at_r = at_Onward.before.before in
-    let at_loop = at_r.before.before in
-    let at_primary = at_loop.before.before.before in
-    let at_brackets = at_primary.before.before in
-    let at_entry_lem = at_brackets.before.before.before.before.before in
-    let P = at_entry_lem.requires.1 in
-    let T = at_loop.loop.invariant.on at_entry_lem.args.out.now (turn_start _ _ _ _ _ _ _ _ _ _ _ P.1.1 at_brackets.brackets-at.ensures _ at_primary.primary.ensures) in
-    turn_stop _ _ _ _ _ _ _ _ _ _ _ T _ _ _ _ at_r.r.given.1 at_Onward.onward-at.ensures.1 _ _ at_v.v.given.1 at_Onward.onward-at.ensures.0
+    let P = c.requires.1 in
+    let T = c.loop-r.invariant.on c.args.out.now (turn_start _ _ _ _ _ _ _ _ _ _ _ P.1.1 c.brackets_at-brackets.ensures _ c.primary-r.ensures) in
+    turn_stop _ _ _ _ _ _ _ _ _ _ _ T _ _ _ _ c.in-Done.is c.onward_at.ensures.1 _ _ c.in-Fault.in-Fault.is c.onward_at.ensures.0
 
-phrase_enum_known_next : (t : ℕ) → phrase-lts.Need-enum-known-next (claims_phrase t) (phrase_at t) phrase.Post phrase_Inv_loop phrase_μ_loop
+phrase_enum_known_next : (t : ℕ) → phrase-lts.Need-enum_known-next (claims_phrase t) (phrase_at t) phrase.Post phrase_Inv_loop phrase_μ_loop
 phrase_enum_known_next t c = search rules
 
-phrase_sub_opened : (t : ℕ) → phrase-lts.Need-overflow-sub-opened (claims_phrase t) (phrase_at t) phrase.Post phrase_Inv_loop phrase_μ_loop
+phrase_sub_opened : (t : ℕ) → phrase-lts.Need-overflow_sub-opened (claims_phrase t) (phrase_at t) phrase.Post phrase_Inv_loop phrase_μ_loop
 phrase_sub_opened t c =
-    let at_next = c.before in
-    let at_Onward = at_next.before.before in
-    let at_r = at_Onward.before.before in
-    let at_loop = at_r.before.before in
-    let at_primary = at_loop.before.before.before in
-    let at_brackets = at_primary.before.before in
-    let at_entry_lem = at_brackets.before.before.before.before.before in
-    let P = at_entry_lem.requires.1 in
-    let T = at_loop.loop.invariant.on at_entry_lem.args.out.now (turn_start _ _ _ _ _ _ _ _ _ _ _ P.1.1 at_brackets.brackets-at.ensures _ at_primary.primary.ensures) in
-    let h = closing_on _ _ _ _ _ _ _ _ _ _ _ T _ _ _ _ at_r.r.given.1 at_Onward.onward-at.ensures.1 _ _ at_next.next.given.1 at_Onward.onward-at.ensures.0 in
+    let P = c.requires.1 in
+    let T = c.loop-r.invariant.on c.args.out.now (turn_start _ _ _ _ _ _ _ _ _ _ _ P.1.1 c.brackets_at-brackets.ensures _ c.primary-r.ensures) in
+    let h = closing_on _ _ _ _ _ _ _ _ _ _ _ T _ _ _ _ c.in-Done.is c.onward_at.ensures.1 _ _ c.in-Closed.in-Closed.is c.onward_at.ensures.0 in
     omega (arith, h.0)
 
-phrase_loop_less : (t : ℕ) → phrase-lts.Need-loop-smaller (claims_phrase t) (phrase_at t) phrase.Post phrase_Inv_loop phrase_μ_loop
+phrase_loop_less : (t : ℕ) → phrase-lts.Need-loop-r-smaller-in-Closed (claims_phrase t) (phrase_at t) phrase.Post phrase_Inv_loop phrase_μ_loop
 phrase_loop_less t c =
-    let at_next = c.before in
-    let at_Onward = at_next.before.before in
-    let at_r = at_Onward.before.before in
-    let at_loop = at_r.before.before in
-    let at_primary = at_loop.before.before.before in
-    let at_brackets = at_primary.before.before in
-    let at_entry_lem = at_brackets.before.before.before.before.before in
-    let P = at_entry_lem.requires.1 in
-    let T = at_loop.loop.invariant.on at_entry_lem.args.out.now (turn_start _ _ _ _ _ _ _ _ _ _ _ P.1.1 at_brackets.brackets-at.ensures _ at_primary.primary.ensures) in
-    let h = closing_on _ _ _ _ _ _ _ _ _ _ _ T _ _ _ _ at_r.r.given.1 at_Onward.onward-at.ensures.1 _ _ at_next.next.given.1 at_Onward.onward-at.ensures.0 in
-    closing_less _ _ _ _ _ _ _ at_r.r.given.1 (h.1, h.2)
+    let P = c.requires.1 in
+    let T = c.loop-r.invariant.on c.args.out.now (turn_start _ _ _ _ _ _ _ _ _ _ _ P.1.1 c.brackets_at-brackets.ensures _ c.primary-r.ensures) in
+    let h = closing_on _ _ _ _ _ _ _ _ _ _ _ T _ _ _ _ c.in-Done.is c.onward_at.ensures.1 _ _ c.in-Closed.in-Closed.is c.onward_at.ensures.0 in
+    closing_less _ _ _ _ _ _ _ c.in-Done.is (h.1, h.2)
 
-phrase_loop_again : (t : ℕ) → phrase-lts.Need-loop-preserved (claims_phrase t) (phrase_at t) phrase.Post phrase_Inv_loop phrase_μ_loop
+phrase_loop_again : (t : ℕ) → phrase-lts.Need-loop-r-preserved-in-Closed (claims_phrase t) (phrase_at t) phrase.Post phrase_Inv_loop phrase_μ_loop
 phrase_loop_again t c =
-    let at_next = c.before in
-    let at_Onward = at_next.before.before in
-    let at_r = at_Onward.before.before in
-    let at_loop = at_r.before.before in
     record {
       on = λ o u.
-          turn_closed _ _ _ _ _ _ _ _ _ _ _ (at_loop.loop.invariant.on o u) _ _ _ _ at_r.r.given.1 at_Onward.onward-at.ensures.1 _ _ at_next.next.given.1 at_Onward.onward-at.ensures.0;
+          turn_closed _ _ _ _ _ _ _ _ _ _ _ (c.loop-r.invariant.on o u) _ _ _ _ c.in-Done.is c.onward_at.ensures.1 _ _ c.in-Closed.in-Closed.is c.onward_at.ensures.0;
     }
 
-phrase_enum_known_f : (t : ℕ) → phrase-lts.Need-enum-known-f (claims_phrase t) (phrase_at t) phrase.Post phrase_Inv_loop phrase_μ_loop
+phrase_enum_known_f : (t : ℕ) → phrase-lts.Need-enum_known-f (claims_phrase t) (phrase_at t) phrase.Post phrase_Inv_loop phrase_μ_loop
 phrase_enum_known_f t c = search rules
 
-phrase_sub_second : (t : ℕ) → phrase-lts.Need-overflow-sub-second (claims_phrase t) (phrase_at t) phrase.Post phrase_Inv_loop phrase_μ_loop
+phrase_sub_second : (t : ℕ) → phrase-lts.Need-overflow_sub-second (claims_phrase t) (phrase_at t) phrase.Post phrase_Inv_loop phrase_μ_loop
 phrase_sub_second t c =
-    let at_f = c.before.before in
-    let at_Onward = at_f.before.before in
-    let at_r = at_Onward.before.before in
-    let at_loop = at_r.before.before in
-    let at_primary = at_loop.before.before.before in
-    let at_brackets = at_primary.before.before in
-    let at_entry_lem = at_brackets.before.before.before.before.before in
-    omega (arith, at_entry_lem.requires.1.1.1)
+    omega (arith, c.requires.1.1.1)
 
-phrase_phrase_requires : (t : ℕ) → phrase-lts.Need-phrase-requires (claims_phrase t) (phrase_at t) phrase.Post phrase_Inv_loop phrase_μ_loop
+phrase_phrase_requires : (t : ℕ) → phrase-lts.Need-phrase-q-requires (claims_phrase t) (phrase_at t) phrase.Post phrase_Inv_loop phrase_μ_loop
 phrase_phrase_requires t c κs =
-    let at_f = c.before.before.before in
-    let at_Onward = at_f.before.before in
-    let at_r = at_Onward.before.before in
-    let at_loop = at_r.before.before in
-    let at_primary = at_loop.before.before.before in
-    let at_brackets = at_primary.before.before in
-    let at_entry_lem = at_brackets.before.before.before.before.before in
-    let P = at_entry_lem.requires.1 in
-    let T = at_loop.loop.invariant.on at_entry_lem.args.out.now (turn_start _ _ _ _ _ _ _ _ _ _ _ P.1.1 at_brackets.brackets-at.ensures _ at_primary.primary.ensures) in
-    let R = operand_room _ _ _ _ _ _ _ _ _ _ _ T _ _ _ _ at_r.r.given.1 at_Onward.onward-at.ensures.1 _ _ _ _ at_f.f.given.1 at_Onward.onward-at.ensures.0 P.0.2 P.1.2 in
-    (omega (arith, at_entry_lem.requires.0, R.4), ((P.0.0, R.1, R.2, P.0.3, P.0.4, omega (arith, T.kept, P.0.5)), (R.3, R.4, R.5)))
+    let P = c.requires.1 in
+    let T = c.loop-r.invariant.on c.args.out.now (turn_start _ _ _ _ _ _ _ _ _ _ _ P.1.1 c.brackets_at-brackets.ensures _ c.primary-r.ensures) in
+    let R = operand_room _ _ _ _ _ _ _ _ _ _ _ T _ _ _ _ c.in-Done.is c.onward_at.ensures.1 _ _ _ _ c.in-Operator.in-Operator.t c.onward_at.ensures.0 P.0.2 P.1.2 in
+    (omega (arith, c.requires.0, R.4), ((P.0.0, R.1, R.2, P.0.3, P.0.4, omega (arith, T.kept, P.0.5)), (R.3, R.4, R.5)))
 
-phrase_close_requires : (t : ℕ) → phrase-lts.Need-close-requires (claims_phrase t) (phrase_at t) phrase.Post phrase_Inv_loop phrase_μ_loop
+phrase_close_requires : (t : ℕ) → phrase-lts.Need-close-r-requires (claims_phrase t) (phrase_at t) phrase.Post phrase_Inv_loop phrase_μ_loop
 phrase_close_requires t c κs =
-    let at_phrase = c.before.before.before in
-    let at_f = at_phrase.before.before.before.before in
-    let at_Onward = at_f.before.before in
-    let at_r = at_Onward.before.before in
-    let at_loop = at_r.before.before in
-    let at_primary = at_loop.before.before.before in
-    let at_brackets = at_primary.before.before in
-    let at_entry_lem = at_brackets.before.before.before.before.before in
-    let P = at_entry_lem.requires.1 in
-    let T = at_loop.loop.invariant.on at_entry_lem.args.out.now (turn_start _ _ _ _ _ _ _ _ _ _ _ P.1.1 at_brackets.brackets-at.ensures _ at_primary.primary.ensures) in
-    let x = at_phrase.phrase.ensures in
-    (operand_headable _ _ _ _ _ _ _ _ _ _ _ T _ _ _ _ at_r.r.given.1 at_Onward.onward-at.ensures.1 _ _ _ _ at_f.f.given.1 at_Onward.onward-at.ensures.0 _ _ x P.0.2 P.1.2 P.0.0, omega (arith, T.kept, x.kept, P.0.5))
+    let P = c.requires.1 in
+    let T = c.loop-r.invariant.on c.args.out.now (turn_start _ _ _ _ _ _ _ _ _ _ _ P.1.1 c.brackets_at-brackets.ensures _ c.primary-r.ensures) in
+    let x = c.phrase-q.ensures in
+    (operand_headable _ _ _ _ _ _ _ _ _ _ _ T _ _ _ _ c.in-Done.is c.onward_at.ensures.1 _ _ _ _ c.in-Operator.in-Operator.t c.onward_at.ensures.0 _ _ x P.0.2 P.1.2 P.0.0, omega (arith, T.kept, x.kept, P.0.5))
 
-phrase_loop_less_2 : (t : ℕ) → phrase-lts.Need-loop-smaller-2 (claims_phrase t) (phrase_at t) phrase.Post phrase_Inv_loop phrase_μ_loop
+phrase_loop_less_2 : (t : ℕ) → phrase-lts.Need-loop-r-smaller (claims_phrase t) (phrase_at t) phrase.Post phrase_Inv_loop phrase_μ_loop
 phrase_loop_less_2 t c =
-    let at_close = c.before.before in
-    let at_phrase = at_close.before.before.before.before in
-    let at_f = at_phrase.before.before.before.before in
-    let at_Onward = at_f.before.before in
-    let at_r = at_Onward.before.before in
-    let at_loop = at_r.before.before in
-    let at_primary = at_loop.before.before.before in
-    let at_brackets = at_primary.before.before in
-    let at_entry_lem = at_brackets.before.before.before.before.before in
-    let P = at_entry_lem.requires.1 in
-    let T = at_loop.loop.invariant.on at_entry_lem.args.out.now (turn_start _ _ _ _ _ _ _ _ _ _ _ P.1.1 at_brackets.brackets-at.ensures _ at_primary.primary.ensures) in
-    operator_less _ _ _ _ _ _ _ _ _ _ _ T _ _ _ _ at_r.r.given.1 at_Onward.onward-at.ensures.1 _ _ _ _ at_f.f.given.1 at_Onward.onward-at.ensures.0 _ _ at_phrase.phrase.ensures _ _ _ at_close.close.ensures.0
+    let P = c.requires.1 in
+    let T = c.loop-r.invariant.on c.args.out.now (turn_start _ _ _ _ _ _ _ _ _ _ _ P.1.1 c.brackets_at-brackets.ensures _ c.primary-r.ensures) in
+    operator_less _ _ _ _ _ _ _ _ _ _ _ T _ _ _ _ c.in-Done.is c.onward_at.ensures.1 _ _ _ _ c.in-Operator.in-Operator.t c.onward_at.ensures.0 _ _ c.phrase-q.ensures _ _ _ c.close-r.ensures.0
 
-phrase_loop_again_2 : (t : ℕ) → phrase-lts.Need-loop-preserved-2 (claims_phrase t) (phrase_at t) phrase.Post phrase_Inv_loop phrase_μ_loop
+phrase_loop_again_2 : (t : ℕ) → phrase-lts.Need-loop-r-preserved (claims_phrase t) (phrase_at t) phrase.Post phrase_Inv_loop phrase_μ_loop
 phrase_loop_again_2 t c =
-    let at_close = c.before.before in
-    let at_phrase = at_close.before.before.before.before in
-    let at_f = at_phrase.before.before.before.before in
-    let at_Onward = at_f.before.before in
-    let at_r = at_Onward.before.before in
-    let at_loop = at_r.before.before in
     record {
       on = λ o u.
-          turn_operator _ _ _ _ _ _ _ _ _ _ _ (at_loop.loop.invariant.on o u) _ _ _ _ at_r.r.given.1 at_Onward.onward-at.ensures.1 _ _ _ _ at_f.f.given.1 at_Onward.onward-at.ensures.0 _ _ at_phrase.phrase.ensures
-          _ _ at_close.close.ensures.0 at_close.close.ensures.1 at_close.close.auto.1.1.1.1.1.0;
+          turn_operator _ _ _ _ _ _ _ _ _ _ _ (c.loop-r.invariant.on o u) _ _ _ _ c.in-Done.is c.onward_at.ensures.1 _ _ _ _ c.in-Operator.in-Operator.t c.onward_at.ensures.0 _ _ c.phrase-q.ensures
+          _ _ c.close-r.ensures.0 c.close-r.ensures.1 c.close-r.auto.1.1.1.1.1.0;
     }
 
-primary_sign_before_requires : (t : ℕ) → primary-lts.Need-sign-before-requires (claims_primary t) (primary_at t) primary.Post
+primary_sign_before_requires : (t : ℕ) → primary-lts.Need-sign_before-standing-requires (claims_primary t) (primary_at t) primary.Post
 primary_sign_before_requires t c κs =
-    let at_entry_lem = c.before.before.before.before in
-    let P = at_entry_lem.requires.1 in
+    let P = c.requires.1 in
     (P.0.0, P.1.2)
 
-primary_fault_word_requires : (t : ℕ) → primary-lts.Need-fault-word-requires (claims_primary t) (primary_at t) primary.Post
+primary_fault_word_requires : (t : ℕ) → primary-lts.Need-fault_word-requires (claims_primary t) (primary_at t) primary.Post
 primary_fault_word_requires t c κs =
-    let at_standing = c.before.before.before.before in
-    let at_entry_lem = at_standing.before.before.before.before.before in
-    omega (arith, at_standing.sign-before.ensures.within, at_entry_lem.requires.1.0.0)
+    omega (arith, c.sign_before-standing.ensures.within, c.requires.1.0.0)
 
-primary_returns : (t : ℕ) → primary-lts.Need-returns (claims_primary t) (primary_at t) primary.Post
+primary_returns : (t : ℕ) → primary-lts.Need-returns-in_default (claims_primary t) (primary_at t) primary.Post
 primary_returns t c =
-    let at_standing = c.before.before.before.before.before in
-    not_too_deep _ _ _ _ _ _ _ _ _ _ at_standing.sign-before.ensures _ c.before.before.before.if1.true c.before.if2.true c.fault-word.ensures
+    not_too_deep _ _ _ _ _ _ _ _ _ _ c.sign_before-standing.ensures _ c.if-standing-eq-NOT.true c.if-cursor-lt2.true c.fault_word.ensures
 
-primary_sub_behind : (t : ℕ) → primary-lts.Need-overflow-sub-behind (claims_primary t) (primary_at t) primary.Post
+primary_sub_behind : (t : ℕ) → primary-lts.Need-overflow_sub-behind (claims_primary t) (primary_at t) primary.Post
 primary_sub_behind t c =
-    let at_standing = c.before.before.before.before.before in
-    let at_entry_lem = at_standing.before.before.before.before.before in
-    omega (arith, c.before.if2.false)
+    omega (arith, c.if-cursor-lt2.false)
 
-primary_phrase_requires : (t : ℕ) → primary-lts.Need-phrase-requires (claims_primary t) (primary_at t) primary.Post
+primary_phrase_requires : (t : ℕ) → primary-lts.Need-phrase-q-requires (claims_primary t) (primary_at t) primary.Post
 primary_phrase_requires t c κs =
-    let at_standing = c.before.before.before.before.before.before in
-    let at_entry_lem = at_standing.before.before.before.before.before in
-    let P = at_entry_lem.requires.1 in
-    let st = at_standing.sign-before.ensures in
-    let sign_is = c.before.before.before.before.if1.true in
+    let P = c.requires.1 in
+    let st = c.sign_before-standing.ensures in
+    let sign_is = c.if-standing-eq-NOT.true in
     let b = st.further (omega arith) (omega arith) in (
-      omega (arith, at_entry_lem.requires.0, c.before.before.if2.false),
-      ((P.0.0, b.1, omega (arith, P.0.2), P.0.3, P.0.4, P.0.5), (omega arith, omega (arith, c.before.before.if2.false), omega (arith, P.1.1))),
+      omega (arith, c.requires.0, c.if-cursor-lt2.false),
+      ((P.0.0, b.1, omega (arith, P.0.2), P.0.3, P.0.4, P.0.5), (omega arith, omega (arith, c.if-cursor-lt2.false), omega (arith, P.1.1))),
     )
 
-primary_close_requires : (t : ℕ) → primary-lts.Need-close-requires (claims_primary t) (primary_at t) primary.Post
+primary_close_requires : (t : ℕ) → primary-lts.Need-close-r-requires (claims_primary t) (primary_at t) primary.Post
 primary_close_requires t c κs =
-    let at_phrase = c.before.before.before in
-    let at_if1 = at_phrase.before.before.before.before.before in
-    let at_standing = at_if1.before.before in
-    let at_entry_lem = at_standing.before.before.before.before.before in
-    let P = at_entry_lem.requires.1 in
-    let a = at_entry_lem.args in
-    let st = at_standing.sign-before.ensures in
-    let sign_is = at_if1.if1.true in
+    let P = c.requires.1 in
+    let a = c.args in
+    let st = c.sign_before-standing.ensures in
+    let sign_is = c.if-standing-eq-NOT.true in
     let b = st.further (omega arith) (omega arith) in
-    let x = at_phrase.phrase.ensures in (
-      not_headable (length a.text.now) a.cursor.room a.cursor.at at_standing.sign-before.result.next a.cursor.end at_phrase.phrase.result x.within b P.0.2 P.1.1 P.0.0,
+    let x = c.phrase-q.ensures in (
+      not_headable (length a.text.now) a.cursor.room a.cursor.at c.sign_before-standing.result.next-1 a.cursor.end c.phrase-q.result x.within b P.0.2 P.1.1 P.0.0,
       omega (arith, x.kept, P.0.5),
     )
 
-primary_same_length : (t : ℕ) → primary-lts.Need-same-length (claims_primary t) (primary_at t) primary.Post
+primary_same_length : (t : ℕ) → primary-lts.Need-shape_of-out (claims_primary t) (primary_at t) primary.Post
 primary_same_length t c = search rules
 
-primary_returns_2 : (t : ℕ) → primary-lts.Need-returns-2 (claims_primary t) (primary_at t) primary.Post
+primary_returns_2 : (t : ℕ) → primary-lts.Need-returns-in-Fault (claims_primary t) (primary_at t) primary.Post
 primary_returns_2 t c =
-    let at_close = c.before.before in
-    let at_phrase = at_close.before.before.before.before in
-    let at_if2 = at_phrase.before.before.before in
-    let at_if1 = at_if2.before.before in
-    let at_standing = at_if1.before.before in
-    let at_entry_lem = at_standing.before.before.before.before.before in
-    let st = at_standing.sign-before.ensures in
-    let sign_is = at_if1.if1.true in
-    not_read _ _ _ _ _ _ _ _ _ _ st (omega arith) _ _ at_phrase.phrase.ensures _ _ sign_is (omega (arith, at_if2.if2.false)) at_close.close.ensures.0 at_close.close.ensures.1 at_close.close.auto.1.1.1.1.1.0
+    let st = c.sign_before-standing.ensures in
+    let sign_is = c.if-standing-eq-NOT.true in
+    not_read _ _ _ _ _ _ _ _ _ _ st (omega arith) _ _ c.phrase-q.ensures _ _ sign_is (omega (arith, c.if-cursor-lt2.false)) c.close-r.ensures.0 c.close-r.ensures.1 c.close-r.auto.1.1.1.1.1.0
 
-primary_fault_word_requires_2 : (t : ℕ) → primary-lts.Need-fault-word-requires-2 (claims_primary t) (primary_at t) primary.Post
+primary_fault_word_requires_2 : (t : ℕ) → primary-lts.Need-fault_word-requires-then-cursor-lt2-2 (claims_primary t) (primary_at t) primary.Post
 primary_fault_word_requires_2 t c κs =
-    let at_standing = c.before.before.before.before.before.before in
-    let at_entry_lem = at_standing.before.before.before.before.before in
-    omega (arith, at_standing.sign-before.ensures.within, at_entry_lem.requires.1.0.0)
+    omega (arith, c.sign_before-standing.ensures.within, c.requires.1.0.0)
 
-primary_returns_3 : (t : ℕ) → primary-lts.Need-returns-3 (claims_primary t) (primary_at t) primary.Post
+primary_returns_3 : (t : ℕ) → primary-lts.Need-returns-in-Found (claims_primary t) (primary_at t) primary.Post
 primary_returns_3 t c =
-    let at_standing = c.before.before.before.before.before.before.before in
-    if_too_deep _ _ _ _ _ _ _ _ _ _ at_standing.sign-before.ensures _ c.before.before.before.if3.true c.before.if4.true c.fault-word2.ensures
+    if_too_deep _ _ _ _ _ _ _ _ _ _ c.sign_before-standing.ensures _ c.if-standing-eq-IF.true c.if-cursor-lt2-2.true c.fault_word-then-cursor-lt2-2.ensures
 
 primary_choice_requires : (t : ℕ) → primary-lts.Need-choice-requires (claims_primary t) (primary_at t) primary.Post
 primary_choice_requires t c κs =
-    let at_standing = c.before.before.before.before.before.before.before in
-    let at_entry_lem = at_standing.before.before.before.before.before in
-    let P = at_entry_lem.requires.1 in
-    let st = at_standing.sign-before.ensures in
-    let sign_is = c.before.before.before.if3.true in
+    let P = c.requires.1 in
+    let st = c.sign_before-standing.ensures in
+    let sign_is = c.if-standing-eq-IF.true in
     let b = st.further (omega arith) (omega arith) in (
-      omega (arith, at_entry_lem.requires.0),
-      ((P.0.0, b.1, omega (arith, P.0.2), P.0.3, P.0.4, P.0.5), (omega (arith, c.before.if4.false), P.1.1)),
+      omega (arith, c.requires.0),
+      ((P.0.0, b.1, omega (arith, P.0.2), P.0.3, P.0.4, P.0.5), (omega (arith, c.if-cursor-lt2-2.false), P.1.1)),
     )
 
-primary_same_length_2 : (t : ℕ) → primary-lts.Need-same-length-2 (claims_primary t) (primary_at t) primary.Post
+primary_same_length_2 : (t : ℕ) → primary-lts.Need-shape_of-out-in-Ended (claims_primary t) (primary_at t) primary.Post
 primary_same_length_2 t c = search rules
 
-primary_returns_4 : (t : ℕ) → primary-lts.Need-returns-4 (claims_primary t) (primary_at t) primary.Post
+primary_returns_4 : (t : ℕ) → primary-lts.Need-returns-then-standing-eq-IF (claims_primary t) (primary_at t) primary.Post
 primary_returns_4 t c =
-    let at_choice = c.before.before in
-    let at_if4 = at_choice.before.before in
-    let at_if3 = at_if4.before.before in
-    let at_standing = at_if3.before.before.before.before in
-    let st = at_standing.sign-before.ensures in
-    let sign_is = at_if3.if3.true in
-    if_read _ _ _ _ _ _ _ _ _ _ st (omega arith) _ _ sign_is (omega (arith, at_if4.if4.false)) at_choice.choice.ensures
+    let st = c.sign_before-standing.ensures in
+    let sign_is = c.if-standing-eq-IF.true in
+    if_read _ _ _ _ _ _ _ _ _ _ st (omega arith) _ _ sign_is (omega (arith, c.if-cursor-lt2-2.false)) c.choice.ensures
 
-primary_plain_at_requires : (t : ℕ) → primary-lts.Need-plain-at-requires (claims_primary t) (primary_at t) primary.Post
+primary_plain_at_requires : (t : ℕ) → primary-lts.Need-plain_at-requires (claims_primary t) (primary_at t) primary.Post
 primary_plain_at_requires t c κs =
-    let at_standing = c.before.before.before.before.before in
-    let at_entry_lem = at_standing.before.before.before.before.before in
-    let P = at_entry_lem.requires.1 in
+    let P = c.requires.1 in
     (P.0.0, (P.0.1, (P.0.2, (P.0.3, P.0.4))))
 
-primary_same_length_3 : (t : ℕ) → primary-lts.Need-same-length-3 (claims_primary t) (primary_at t) primary.Post
+primary_same_length_3 : (t : ℕ) → primary-lts.Need-shape_of-out-in-Fault (claims_primary t) (primary_at t) primary.Post
 primary_same_length_3 t c = search rules
 
-primary_returns_5 : (t : ℕ) → primary-lts.Need-returns-5 (claims_primary t) (primary_at t) primary.Post
+primary_returns_5 : (t : ℕ) → primary-lts.Need-returns (claims_primary t) (primary_at t) primary.Post
 primary_returns_5 t c =
-    let at_plain = c.before.before in
-    let at_if3 = at_plain.before.before in
-    let at_if1 = at_if3.before.before in
-    let at_standing = at_if1.before.before in
-    let at_entry_lem = at_standing.before.before.before.before.before in
-    plain_read _ _ _ _ _ _ _ _ _ _ at_standing.sign-before.ensures _ _ at_if1.if1.false at_if3.if3.false at_entry_lem.requires.1.1.0 at_plain.plain_at.ensures
+    plain_read _ _ _ _ _ _ _ _ _ _ c.sign_before-standing.ensures _ _ c.if-standing-eq-NOT.false c.if-standing-eq-IF.false c.requires.1.1.0 c.plain_at.ensures
 
 pub +argument_choice_phrase_primary_spec : {M : Type 1} → statement M
 +argument_choice_phrase_primary_spec =

@@ -8,8 +8,8 @@ formula_at_spec =
     tie.close
     (tie.spec
     (λ c κs.
-    let P = c.before.before.before.before.before.requires in
+    let P = c.requires in
     let R = P.0 in
     ((R.0, R.1.0, R.1.1.0, R.1.1.1.0, R.1.1.1.1, P.1), (omega arith, omega arith, omega arith)))
     (λ c. search rules)
-    (λ c. let x = c.before.before.phrase.ensures in (x.reads, (x.within, (x.fewer, x.kept)))))
+    (λ c. let x = c.phrase.ensures in (x.reads, (x.within, (x.fewer, x.kept)))))
