@@ -2,4 +2,3 @@
 // condition left; and an example of a sheet on which two phones differ.
 
 #![tactic(auto)]
-

@@ -2,4 +2,3 @@
 // where it answers 0 for each behaviour, their boards are equal.
 
 #![tactic(auto)]
-

@@ -2,4 +2,3 @@
 // this player holds with no condition left.
 
 #![tactic(auto)]
-

@@ -2,4 +2,3 @@
 // in specs/.
 
 #![tactic(auto)]
-

@@ -2,4 +2,3 @@
 // specs/ and proofs/.
 
 #![tactic(auto)]
-

@@ -2,4 +2,3 @@
 // code.
 
 #![tactic(auto)]
-

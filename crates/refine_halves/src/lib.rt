@@ -2,4 +2,3 @@
 // They stand in specs/.
 
 #![tactic(auto)]
-

@@ -2,4 +2,3 @@
 // functions give. They stand in specs/.
 
 #![tactic(auto)]
-
