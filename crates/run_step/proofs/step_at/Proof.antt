@@ -6,11 +6,11 @@ use Rattle.run_step.proofs.step_at.Statement.{statement}
 use Rattle.run_step.proofs.step_at.Tie as tie
 
 is_outranked_requires : tie.Need-is_outranked-outranked-requires
-is_outranked_requires c κs = ours_sound _ _ (sym c.is_ours.ensures.0 ∙ not-false _ c.if-not-is_ours.false)
+is_outranked_requires c κs = ours_sound _ _ (sym c.is_ours.ensures.0 ∙ c.if-not-is_ours.false)
 
 step_on_requires : tie.Need-step_on-requires
 step_on_requires c κs = (
-  ours_sound _ _ (sym c.is_ours.ensures.0 ∙ not-false _ c.if-not-is_ours.false),
+  ours_sound _ _ (sym c.is_ours.ensures.0 ∙ c.if-not-is_ours.false),
   sym c.is_outranked-outranked.ensures,
 )
 
@@ -18,6 +18,6 @@ pub step_at_spec : {M : Type 1} → statement M
 step_at_spec =
     tie.close
     (tie.spec (search rules) (search rules)
-    (λ c. foreign _ _ c.is_ours.ensures.0 (not-true _ c.if-not-is_ours.true))
+    (λ c. foreign _ _ c.is_ours.ensures.0 c.if-not-is_ours.true)
     is_outranked_requires step_on_requires (search rules)
     (λ c. c.step_on.ensures.0))
