@@ -1,5 +1,5 @@
 -- The loop keeps that what is left of `behaviours_of` gives the whole; each behaviour takes bytes, so it ends.
-use Rattle.lib_base.proofs.Prelude.{◌≤◌, ◌<◌, ◌+◌, ◌-◌, refl, length, rules, arith}
+use Rattle.lib_base.proofs.Prelude.{◌-◌, refl, length, rules, arith}
 use Rattle.front_sheet.proofs.Laws.{BehaviourTurn, behaviour_stops, behaviour_turns, behaviours_end}
 use Rattle.front_sheet.proofs.read_behaviours.Statement.{statement}
 use Rattle.front_sheet.proofs.read_behaviours.Tie as tie
@@ -24,23 +24,6 @@ loop_holds c =
       kept = omega arith;
     }
 
--- where a behaviour is read
-abbrev turn_at : tie.After-read_behaviour-r invariant-loop decreases-loop → tie.At-loop-at invariant-loop decreases-loop
-turn_at c = c.before.before.before.before
-
--- it takes bytes, and those are there
-module _ (c : tie.In-Done-2 invariant-loop decreases-loop) where
-  abbrev call_at : tie.After-read_behaviour-r invariant-loop decreases-loop
-  call_at = c.before.before.before.before
-
-  further : (0 < c.in-Done.size.0.0) × ((turn_at call_at).loop-at.i ≤ 319)
-      × ((turn_at call_at).loop-at.at + c.in-Done.size.0.0 ≤ length (turn_at call_at).args.s.now)
-      × (length (turn_at call_at).args.s.now ≤ 8192)
-  further =
-      let h = rw c.in-Done.is at c.read_behaviour-r.ensures.1.0 in
-      let t = (turn_at call_at).loop-at.inv in
-      omega (arith, t.reached, t.few, t.room, call_at.read_behaviour-arg-1.given)
-
 read_behaviour_requires : tie.Need-read_behaviour-r-requires invariant-loop decreases-loop
 read_behaviour_requires c κs =
     let t = c.loop-at.invariant in
@@ -48,18 +31,18 @@ read_behaviour_requires c κs =
 
 same_length : tie.Need-shape_of-draft-in_default invariant-loop decreases-loop
 same_length c =
-    omega (arith, c.read_behaviour-r.auto.draft, (turn_at c.before.before.before.before.before).loop-at.invariant.kept)
+    omega (arith, c.read_behaviour-r.auto.draft, c.loop-at.invariant.kept)
 
 returns : tie.Need-returns-in_default invariant-loop decreases-loop
 returns c =
-    behaviour_stops (turn_at c.before.before.before.before.before).loop-at.invariant c.loop-at-test.true
+    behaviour_stops c.loop-at.invariant c.loop-at-test.true
     c.read_behaviour-r.ensures.0 c.in_default.is c.fault.ensures
 
 loop_again : tie.Need-loop-at-preserved invariant-loop decreases-loop
 loop_again c =
-    let k = (call_at c.before.before.before).read_behaviour-r in
-    behaviour_turns (turn_at (call_at c.before.before.before)).loop-at.inv (call_at c.before.before.before).loop-at-test.true
-    k.ensures.0 c.in-Done.is k.ensures.1.0 k.ensures.1.1 k.kept.1.1.1.0
+    let k = c.read_behaviour-r in
+    behaviour_turns c.loop-at.invariant c.loop-at-test.true
+    k.ensures.0 c.in-Done.is k.ensures.1.0 k.ensures.1.1 k.auto.draft
     c.cells_at-i.ensures.0 c.cells_at-i.ensures.1
 
 pub read_behaviours_spec : {M : Type 1} → statement M
@@ -70,13 +53,13 @@ read_behaviours_spec =
     (λ c. omega (arith, c.loop-at.invariant.reached))
     (λ c. omega (arith, c.loop-at.invariant.reached))
     read_behaviour_requires (search rules) (search rules) (search rules) same_length returns
-    (λ c. omega (arith, further c.before))
-    (λ c. omega (arith, further c.before))
-    (λ c. omega (arith, further c.before))
+    (λ c. let h = rw c.in-Done.is at c.read_behaviour-r.ensures.1.0 in let t = c.loop-at.invariant in omega (arith, h, t.reached, t.few, t.room, c.read_behaviour-arg-1.given))
+    (λ c. let h = rw c.in-Done.is at c.read_behaviour-r.ensures.1.0 in let t = c.loop-at.invariant in omega (arith, h, t.reached, t.few, t.room, c.read_behaviour-arg-1.given))
+    (λ c. let h = rw c.in-Done.is at c.read_behaviour-r.ensures.1.0 in let t = c.loop-at.invariant in omega (arith, h, t.reached, t.few, t.room, c.read_behaviour-arg-1.given))
     (search rules)
-    (λ c. omega (arith, further c.before.before.before, c.cells_at-i.ensures.1))
-    (λ c. omega (arith, further c.before.before.before))
-    (λ c. omega (arith, further c.before.before.before))
+    (λ c. let h = rw c.in-Done.is at c.read_behaviour-r.ensures.1.0 in let t = c.loop-at.invariant in omega (arith, h, t.reached, t.few, t.room, c.read_behaviour-arg-1.given, c.cells_at-i.ensures.1))
+    (λ c. let h = rw c.in-Done.is at c.read_behaviour-r.ensures.1.0 in let t = c.loop-at.invariant in omega (arith, h, t.reached, t.few, t.room, c.read_behaviour-arg-1.given))
+    (λ c. let h = rw c.in-Done.is at c.read_behaviour-r.ensures.1.0 in let t = c.loop-at.invariant in omega (arith, h, t.reached, t.few, t.room, c.read_behaviour-arg-1.given))
     loop_again
     (λ c. omega (arith, c.loop-at.invariant.kept))
     (λ c. behaviours_end c.loop-at.invariant c.loop-at-test.false))

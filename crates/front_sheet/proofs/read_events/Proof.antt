@@ -1,5 +1,5 @@
 -- The loop keeps that what is left of `read_events` gives the whole; each event takes bytes, so it ends.
-use Rattle.lib_base.proofs.Prelude.{◌≤◌, ◌<◌, ◌+◌, ◌-◌, refl, length, rules, arith}
+use Rattle.lib_base.proofs.Prelude.{◌-◌, refl, length, rules, arith}
 use Rattle.front_sheet.proofs.Laws.{EventTurn, event_stops, event_ends, event_turns, events_over}
 use Rattle.front_sheet.proofs.read_events.Statement.{statement}
 use Rattle.front_sheet.proofs.read_events.Tie as tie
@@ -23,48 +23,32 @@ loop_holds c =
       kept = omega arith;
     }
 
--- where an event is read
-abbrev turn_at : tie.After-read_event-r invariant-loop decreases-loop → tie.At-loop-at invariant-loop decreases-loop
-turn_at c = c.before.before.before.before
-
--- a declared one takes bytes, and those are there
-module _ (c : tie.In-Declared-2 invariant-loop decreases-loop) where
-  abbrev call_at : tie.After-read_event-r invariant-loop decreases-loop
-  call_at = c.before.before.before.before
-
-  further : (0 < c.in-Declared.size.0.0) × ((turn_at call_at).loop-at.e < 32)
-      × ((turn_at call_at).loop-at.at + c.in-Declared.size.0.0 ≤ length (turn_at call_at).args.s.now)
-  further =
-      let h = rw c.in-Declared.is at c.read_event-r.ensures.1 in
-      omega (arith, (turn_at call_at).loop-at.inv.reached, call_at.read_event-arg-1.given)
-
 same_length : tie.Need-shape_of-draft-in-NoEvent invariant-loop decreases-loop
 same_length c =
-    omega (arith, c.read_event-r.auto.draft, (turn_at c.before.before.before.before.before).loop-at.invariant.kept)
+    omega (arith, c.read_event-r.auto.draft, c.loop-at.invariant.kept)
 
 returns : tie.Need-returns-in-NoEvent invariant-loop decreases-loop
-returns c =
-    (
-      event_stops (turn_at c.before.before.before.before.before).loop-at.invariant c.loop-at-test.true
-          c.read_event-r.ensures.0 c.in-NoEvent.is,
-      tt,
-    )
+returns c = (
+  event_stops c.loop-at.invariant c.loop-at-test.true
+      c.read_event-r.ensures.0 c.in-NoEvent.is,
+  tt,
+)
 
 same_length_2 : tie.Need-shape_of-draft-in-Ended invariant-loop decreases-loop
 same_length_2 c =
-    omega (arith, c.read_event-r.auto.draft, (turn_at c.before.before.before.before).loop-at.invariant.kept)
+    omega (arith, c.read_event-r.auto.draft, c.loop-at.invariant.kept)
 
 returns_2 : tie.Need-returns-in-Ended invariant-loop decreases-loop
 returns_2 c =
-    event_ends (turn_at c.before.before.before.before).loop-at.invariant c.loop-at-test.true
+    event_ends c.loop-at.invariant c.loop-at-test.true
     c.read_event-r.ensures.0 c.in-Ended.is
 
 loop_again : tie.Need-loop-at-preserved invariant-loop decreases-loop
 loop_again c =
-    let call = call_at c.before in
+    let call = c in
     let k = call.read_event-r in
-    event_turns (turn_at call).loop-at.inv call.loop-at-test.taken k.ensures.0
-    c.in-Declared.is k.ensures.1 k.kept.1.1.0
+    event_turns call.loop-at.invariant call.loop-at-test.true k.ensures.0
+    c.in-Declared.is k.ensures.1 k.auto.draft
 
 pub read_events_spec : {M : Type 1} → statement M
 read_events_spec =
@@ -75,9 +59,9 @@ read_events_spec =
     (λ c. omega (arith, c.loop-at.invariant.reached))
     (λ c κs. let t = c.loop-at.invariant in omega (arith, t.few, t.kept))
     (search rules) same_length returns (search rules) same_length_2 returns_2 (search rules)
-    (λ c. omega (arith, further c.before, (turn_at (call_at c.before)).loop-at.inv.room))
-    (λ c. omega (arith, further c.before))
-    (λ c. omega (arith, further c.before))
+    (λ c. let h = rw c.in-Declared.is at c.read_event-r.ensures.1 in let t = c.loop-at.invariant in omega (arith, h, t.reached, c.read_event-arg-1.given, c.loop-at.invariant.room))
+    (λ c. let h = rw c.in-Declared.is at c.read_event-r.ensures.1 in let t = c.loop-at.invariant in omega (arith, h, t.reached, c.read_event-arg-1.given))
+    (λ c. let h = rw c.in-Declared.is at c.read_event-r.ensures.1 in let t = c.loop-at.invariant in omega (arith, h, t.reached, c.read_event-arg-1.given))
     loop_again
     (λ c. omega (arith, c.loop-at.invariant.kept))
     (λ c. events_over c.loop-at.invariant c.loop-at-test.false))

@@ -16,6 +16,6 @@ read_program_spec =
     (λ c. program_stops _ _ c.read_events-r.ensures.0 c.in_default.is c.fault.ensures)
     (λ c κs.
     let h = rw c.in-Done.is at c.read_events-r.ensures.1 in
-    omega (arith, c.read_events-r.auto.1.0))
+    omega (arith, c.read_events-r.auto.draft))
     (λ c. search rules)
     (λ c. program_goes _ _ c.read_events-r.ensures.0 c.in-Done.is c.read_behaviours.ensures))
