@@ -73,11 +73,11 @@ class Theory:
                         self.own.setdefault(name, d)
         self.imported, self.modules = {}, {}
         text = "\n".join(without_comment(line) for line in source.lines)
-        for use in re.finditer(r"^(?:pub )?use (\S+?)\.\{([^}]*)\}\s*$", text, re.M):
+        for use in re.finditer(r"^(?:unfoldable )?(?:pub )?use (\S+?)\.\{([^}]*)\}\s*$", text, re.M):
             for part in use.group(2).split(","):
                 old, _, new = part.strip().partition(" as ")
                 self.imported[(new or old).strip()] = (place_of(use.group(1)), old.strip())
-        for use in re.finditer(r"^(?:pub )?use (\S+?)(?: as (\S+))?\s*$", text, re.M):
+        for use in re.finditer(r"^(?:unfoldable )?(?:pub )?use (\S+?)(?: as (\S+))?\s*$", text, re.M):
             self.modules[use.group(2) or use.group(1).split(".")[-1]] = place_of(use.group(1))
 
 
@@ -107,9 +107,20 @@ class Library:
     def theory(self, module):
         """The module's text; None where it is built into the checker, or made from a type of the library's code."""
         if module not in self.theories:
-            path = self.path_of(module)
+            path = self.path_of(self.place(module))
             self.theories[module] = Theory(read_source(path)) if os.path.exists(path) else None
         return self.theories[module]
+
+    def place(self, module):
+        """The module itself, where another passes it on as one of its own: its list of modules, or `pub use` of it."""
+        parts = module.split(".")
+        for cut in range(len(parts) - 1, 1, -1) if not os.path.exists(self.path_of(module)) else ():
+            above = ".".join(parts[:cut])
+            for path in (self.path_of(above), self.path_of(above + ".Lib")):
+                for used in re.findall(r"^pub use (\S+)$", text_of(path), re.M) if os.path.exists(path) else ():
+                    if used.split(".")[-1] == parts[cut]:
+                        return self.place(".".join([used, *parts[cut + 1 :]]))
+        return module
 
 
 def source_folder(folder):
@@ -147,9 +158,10 @@ class Believed:
         for _ in range(8):
             theory = self.theories.get(path) or (path and self.library.theory(path))
             if not theory:
-                return (path, name, None) if path and path not in self.theories else None
+                return (self.library.place(path), name, None) if path and path not in self.theories else None
             if name in theory.own:
-                return None if path in self.theories else (path, theory.own[name].name, theory.own[name])
+                place = self.library.place(path) if path not in self.theories else None
+                return place and (place, theory.own[name].name, theory.own[name])
             if name not in theory.imported:
                 return None
             path, name = theory.imported[name]

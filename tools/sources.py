@@ -74,14 +74,14 @@ def signature(line):
 
 
 def is_directive(line):
-    return re.match(r"(pub )?(use|mod|ruleset|syntax|infix|infixl|infixr|prefix|notation|module)\b", line) is not None
+    return re.match(r"(unfoldable )?(pub )?(use|mod|ruleset|syntax|infix|infixl|infixr|prefix|notation|module)\b", line) is not None
 
 
 def read_imports(lines):
     """Every `use`, its module and the names that it brings in (of `use M as m`: none)."""
     text = "\n".join(without_comment(line) for line in lines)
     found = []
-    for use in re.finditer(r"^(?:pub )?(?:ghost )?use (\S+?)(?:\.\{([^}]*)\}|(?: as (\S+?))?);?\s*$", text, re.M):
+    for use in re.finditer(r"^(?:unfoldable )?(?:pub )?(?:ghost )?use (\S+?)(?:\.\{([^}]*)\}|(?: as (\S+?))?);?\s*$", text, re.M):
         names = [n.strip().split(" as ")[0] for n in (use.group(2) or "").split(",") if n.strip()]
         found.append((use.group(1), names))
     return found
