@@ -11,5 +11,5 @@ is_stop_spec =
     tie.close
     (tie.spec
     (λ c κs. search rules)
-    (λ c. rw (← c.before.is-unmade.ensures) (search code depth 12))
-    (λ c. rw (← c.before.is-unmade.ensures) (search code depth 12)))
+    (λ c. rw (← c.before.is_unmade.ensures) (search code depth 12))
+    (λ c. rw (← c.before.is_unmade.ensures) (search code depth 12)))

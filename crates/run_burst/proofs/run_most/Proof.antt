@@ -5,51 +5,48 @@ use Rattle.run_burst.proofs.Rows.{Ready, make_ready, in_code, none_ran, rows}
 use Rattle.run_burst.proofs.run_most.Statement.{statement}
 use Rattle.run_burst.proofs.run_most.Tie as tie
 
-returns_2 : tie.Need-returns-2
-returns_2 c = (none_ran c.before.before.before.before.before.before.requires.0, omega arith)
+returns_2 : tie.Need-returns-then-get_word-eq0
+returns_2 c = (none_ran c.requires.0, omega arith)
 
-returns_3 : tie.Need-returns-3
+returns_3 : tie.Need-returns-then-length-position
 returns_3 c =
-    let position = c.before.before.before.before in
-    (none_ran position.before.before.before.before.before.before.before.before.requires.0, omega arith)
+    (none_ran c.requires.0, omega arith)
 
 -- where all is read
-module _ (c : tie.After-smaller) where
-  abbrev left : tie.Else3
+module _ (c : tie.After-smaller-n) where
+  abbrev left : tie.Else-length-position
   left = c.before.before.before.before
 
-  abbrev position : tie.After-get-word2
+  abbrev position : tie.After-get_word-position
   position = c.before.before.before.before.before.before.before.before
 
   abbrev entry : tie.Start
   entry = position.before.before.before.before.before.before.before.before
 
-  ready : Ready entry.args.table.now entry.args.round.now c.before.before.before.event-word2.result position.get-word2.result c.smaller.result
+  ready : Ready entry.args.table.now entry.args.round.now c.event_word-start.result position.get_word-position.result c.smaller-n.result
   ready =
-      make_ready entry.pre.0 entry.pre.1 position.before.before.before.before.before.if1.left position.before.before.before.get-word.ensures
-      position.before.before.if2.left position.get-word2.ensures left.before.before.event_at_law.ensures left.before.event_word_law.ensures
-      c.before.before.before.event-word2.ensures (omega (arith, c.smaller.ensures, left.if3.left))
+      make_ready entry.pre.0 entry.pre.1 position.if-outranked.left position.get_word.ensures
+      position.if-get_word-eq0.left position.get_word-position.ensures left.event_at-event.ensures left.event_word-length.ensures
+      c.event_word-start.ensures (omega (arith, c.smaller-n.ensures, left.if-length-position.left))
 
-run_from_requires : tie.Need-run-from-requires
+run_from_requires : tie.Need-run_from-ran-requires
 run_from_requires c κs =
     let s = (entry c.before).pre.0 in
-    omega (arith, in_code (ready c.before), s.whole, s.long, s.shallow, c.before.before.get-word3.ensures)
+    omega (arith, in_code (ready c.before), s.whole, s.long, s.shallow, c.get_word-depth.ensures)
 
-returns_4 : tie.Need-returns-4
+returns_4 : tie.Need-returns
 returns_4 c =
-    let written = c.before.before.before.before.before.before in
-    let ran = written.before.before.before.before in
-    let read = ran.before.before in (
-      rows _ _ (λ i. omega (arith, (position read).before.before.before.before.before.before.slice-known.given i)) (ready read) read.before.get-word3.ensures (position read).get-word2.ensures
-          ran.run-from.ensures.0 written.put_word.ensures c.before.before.put-word2.ensures,
-      omega (arith, ran.run-from.ensures.1.0, read.smaller.ensures),
+    (
+      rows _ _ (λ i. omega (arith, (position c.before.before.before.before.before.before.before.before.before.before.before.before).slice_known-1.given i)) (ready c.before.before.before.before.before.before.before.before.before.before.before.before) c.get_word-depth.ensures (position c.before.before.before.before.before.before.before.before.before.before.before.before).get_word-position.ensures
+          c.run_from-ran.ensures.0 c.put_word.ensures c.put_word-2.ensures,
+      omega (arith, c.run_from-ran.ensures.1.0, c.smaller-n.ensures),
     )
 
 pub run_most_spec : {M : Type 1} → statement M
 run_most_spec =
     tie.close
     (tie.spec
-    (λ c. (none_ran c.before.before.before.requires.0, omega arith))
+    (λ c. (none_ran c.requires.0, omega arith))
     (search rules) (search rules) returns_2 (search rules) (search rules) (search rules) (search rules) returns_3
     (search rules) (search rules) (search rules) (search rules) (search rules)
     (λ c. omega (arith, in_code (ready c.before)))

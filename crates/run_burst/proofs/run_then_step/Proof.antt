@@ -4,33 +4,25 @@ use Rattle.run_burst.proofs.Glue.{all_ran, not_made, one_made}
 use Rattle.run_burst.proofs.run_then_step.Statement.{statement}
 use Rattle.run_burst.proofs.run_then_step.Tie as tie
 
-returns : tie.Need-returns
+returns : tie.Need-returns-then-done-left
 returns c =
-    let ran = c.before.before.before in
-    let entry = ran.before.before.before.before in
-    all_ran entry.requires.1 ran.run-most.ensures.0 ran.run-most.ensures.1 entry.requires.2 c.if1.true
+    all_ran c.requires.1 c.run_most-done.ensures.0 c.run_most-done.ensures.1 c.requires.2 c.if-done-left.true
 
-step_on_requires : tie.Need-step-on-requires
+step_on_requires : tie.Need-step_on-answer-requires
 step_on_requires c κs =
-    let ran = c.before.before.before.before in
-    let entry = ran.before.before.before.before in
-    (ran.run-most.ensures.0.sound, ran.run-most.ensures.0.rank ∙ entry.requires.1)
+    (c.run_most-done.ensures.0.sound, c.run_most-done.ensures.0.rank ∙ c.requires.1)
 
-returns_2 : tie.Need-returns-2
+returns_2 : tie.Need-returns-then-is_unmade
 returns_2 c =
-    let ran = c.before.before.before.before.before.before.before.before.before in
-    let entry = ran.before.before.before.before in
-    let step = c.before.before.before.before.step_on_law.ensures in
-    not_made entry.requires.1 ran.run-most.ensures.0 ran.run-most.ensures.1 entry.requires.2 c.before.before.before.before.before.before.if1.false
-    step.0 step.1 (sym c.before.is-unmade.ensures ∙ c.if2.true)
+    let step = c.step_on-answer.ensures in
+    not_made c.requires.1 c.run_most-done.ensures.0 c.run_most-done.ensures.1 c.requires.2 c.if-done-left.false
+    step.0 step.1 (sym c.is_unmade.ensures ∙ c.if-is_unmade.true)
 
-returns_3 : tie.Need-returns-3
+returns_3 : tie.Need-returns
 returns_3 c =
-    let ran = c.before.before.before.before.before.before.before.before.before in
-    let entry = ran.before.before.before.before in
-    let step = c.before.before.before.before.step_on_law.ensures in
-    one_made entry.requires.1 ran.run-most.ensures.0 ran.run-most.ensures.1 entry.requires.2 c.before.before.before.before.before.before.if1.false
-    step.0 step.1 (sym c.before.is-unmade.ensures ∙ c.if2.false)
+    let step = c.step_on-answer.ensures in
+    one_made c.requires.1 c.run_most-done.ensures.0 c.run_most-done.ensures.1 c.requires.2 c.if-done-left.false
+    step.0 step.1 (sym c.is_unmade.ensures ∙ c.if-is_unmade.false)
 
 pub run_then_step_spec : {M : Type 1} → statement M
 run_then_step_spec =
@@ -38,8 +30,8 @@ run_then_step_spec =
     (tie.spec
     (λ c κs. search rules)
     (search rules) returns step_on_requires (search rules)
-    (λ c. omega (arith, c.before.before.before.before.before.before.before.before.before.run-most.ensures.1))
+    (λ c. omega (arith, c.run_most-done.ensures.1))
     (search rules) returns_2
-    (λ c. omega (arith, c.before.before.before.before.before.before.before.before.before.run-most.ensures.1))
-    (λ c. omega (arith, c.before.before.before.before.before.before.before.before.before.run-most.ensures.1, c.before.before.before.before.before.before.if1.false))
+    (λ c. omega (arith, c.run_most-done.ensures.1))
+    (λ c. omega (arith, c.run_most-done.ensures.1, c.if-done-left.false))
     (search rules) returns_3)
