@@ -120,7 +120,7 @@ argument_phrase_requires t c κs =
     let b = rw at_p.in-Found.is at at_sign.sign_due.ensures.1 in
     let few = P.1.0 in
     let room = P.1.1.1 in
-    (omega (arith, c.requires.0, room.0), ((P.0.0, b.2, omega arith, few.0, few.1, few.2), (omega arith, omega (arith, room.0), omega (arith, room.1))))
+    (omega (arith, at_entry_lem.requires.0, room.0), ((P.0.0, b.2, omega arith, few.0, few.1, few.2), (omega arith, omega (arith, room.0), omega (arith, room.1))))
 
 argument_under_requires : (t : ℕ) → argument-lts.Need-under-requires (claims_argument t) (argument_at t) argument.Post
 argument_under_requires t c κs = search rules
@@ -156,7 +156,7 @@ choice_argument_requires_2 t c κs =
     let one = at_one.argument-r.ensures in
     let g₁ = gone_further _ _ _ _ _ at_entry_lem.args.cursor.at at_entry_lem.args.cursor.end _ _ _ _ one (gone_start _ _ _ _ P.0.1) in
     let k₁ = kept_after _ _ _ _ _ _ _ _ _ one in
-    (omega (arith, c.requires.0), ((P.0.0, gone_room _ _ _ _ _ g₁ P.0.2), ((P.0.3, P.0.4, omega (arith, k₁, P.0.5)), ((omega arith, omega arith), P.1))))
+    (omega (arith, at_entry_lem.requires.0), ((P.0.0, gone_room _ _ _ _ _ g₁ P.0.2), ((P.0.3, P.0.4, omega (arith, k₁, P.0.5)), ((omega arith, omega arith), P.1))))
 
 choice_argument_requires_3 : (t : ℕ) → choice-lts.Need-argument-r-requires-3 (claims_choice t) (choice_at t) choice.Post
 choice_argument_requires_3 t c κs =
@@ -170,7 +170,7 @@ choice_argument_requires_3 t c κs =
     let two = at_two.argument-r-2.ensures in
     let g₂ = gone_further _ _ _ _ _ at_entry_lem.args.cursor.at at_entry_lem.args.cursor.end _ _ _ _ two g₁ in
     let k₂ = kept_after _ _ _ _ _ _ _ _ _ two in
-    (omega (arith, c.requires.0), ((P.0.0, gone_room _ _ _ _ _ g₂ P.0.2), ((P.0.3, P.0.4, omega (arith, k₁, k₂, P.0.5)), ((omega arith, omega arith), P.1))))
+    (omega (arith, at_entry_lem.requires.0), ((P.0.0, gone_room _ _ _ _ _ g₂ P.0.2), ((P.0.3, P.0.4, omega (arith, k₁, k₂, P.0.5)), ((omega arith, omega arith), P.1))))
 
 choice_ended_requires : (t : ℕ) → choice-lts.Need-ended-r-requires (claims_choice t) (choice_at t) choice.Post
 choice_ended_requires t c κs =
@@ -190,7 +190,7 @@ choice_ended_requires t c κs =
     let k₃ = kept_after _ _ _ _ _ _ _ _ _ three in
     (P.0.0, gone_inside _ _ _ _ _ g₃)
 
-choice_close_requires : (t : ℕ) → choice-lts.Need-close-r-requires (claims_choice t) (choice_at t) choice.Post
+choice_close_requires : (t : ℕ) → choice-lts.Need-close-requires (claims_choice t) (choice_at t) choice.Post
 choice_close_requires t c κs =
     let at_ended = c in
     let at_three = at_ended in
@@ -213,7 +213,7 @@ choice_close_requires t c κs =
 choice_same_length : (t : ℕ) → choice-lts.Need-shape_of-out (claims_choice t) (choice_at t) choice.Post
 choice_same_length t c = search rules
 
-choice_returns : (t : ℕ) → choice-lts.Need-returns-in_default (claims_choice t) (choice_at t) choice.Post
+choice_returns : (t : ℕ) → choice-lts.Need-returns (claims_choice t) (choice_at t) choice.Post
 choice_returns t c =
     let at_close = c in
     let at_ended = at_close in
@@ -500,7 +500,7 @@ primary_phrase_requires t c κs =
       ((P.0.0, b.1, omega (arith, P.0.2), P.0.3, P.0.4, P.0.5), (omega arith, omega (arith, c.if-cursor-lt2.false), omega (arith, P.1.1))),
     )
 
-primary_close_requires : (t : ℕ) → primary-lts.Need-close-r-requires (claims_primary t) (primary_at t) primary.Post
+primary_close_requires : (t : ℕ) → primary-lts.Need-close-requires (claims_primary t) (primary_at t) primary.Post
 primary_close_requires t c κs =
     let at_phrase = c in
     let at_if1 = at_phrase in
