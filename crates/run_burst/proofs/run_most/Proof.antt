@@ -14,33 +14,23 @@ returns_3 c =
 
 -- where all is read
 module _ (c : tie.After-smaller-n) where
-  abbrev left : tie.Else-length-position
-  left = c.before.before.before.before
-
-  abbrev position : tie.After-get_word-position
-  position = c.before.before.before.before.before.before.before.before
-
-  abbrev entry : tie.Start
-  entry = position.before.before.before.before.before.before.before.before
-
-  ready : Ready entry.args.table.now entry.args.round.now c.event_word-start.result position.get_word-position.result c.smaller-n.result
+  ready : Ready c.args.table.now c.args.round.now c.event_word-start.result c.get_word-position.result c.smaller-n.result
   ready =
-      make_ready entry.pre.0 entry.pre.1 position.if-outranked.left position.get_word.ensures
-      position.if-get_word-eq0.left position.get_word-position.ensures left.event_at-event.ensures left.event_word-length.ensures
-      c.event_word-start.ensures (omega (arith, c.smaller-n.ensures, left.if-length-position.left))
+      make_ready c.requires.0 c.requires.1 c.if-outranked.false c.get_word.ensures
+      c.if-get_word-eq0.false c.get_word-position.ensures c.event_at-event.ensures c.event_word-length.ensures
+      c.event_word-start.ensures (omega (arith, c.smaller-n.ensures, c.if-length-position.false))
 
 run_from_requires : tie.Need-run_from-ran-requires
 run_from_requires c κs =
-    let s = (entry c.before).pre.0 in
+    let s = c.requires.0 in
     omega (arith, in_code (ready c.before), s.whole, s.long, s.shallow, c.get_word-depth.ensures)
 
 returns_4 : tie.Need-returns
-returns_4 c =
-    (
-      rows _ _ (λ i. omega (arith, (position c.before.before.before.before.before.before.before.before.before.before.before.before).slice_known-1.given i)) (ready c.before.before.before.before.before.before.before.before.before.before.before.before) c.get_word-depth.ensures (position c.before.before.before.before.before.before.before.before.before.before.before.before).get_word-position.ensures
-          c.run_from-ran.ensures.0 c.put_word.ensures c.put_word-2.ensures,
-      omega (arith, c.run_from-ran.ensures.1.0, c.smaller-n.ensures),
-    )
+returns_4 c = (
+  rows _ _ (λ i. omega (arith, c.slice_known-1.given i)) (ready c.before.before.before.before.before.before.before.before.before.before.before.before) c.get_word-depth.ensures c.get_word-position.ensures
+      c.run_from-ran.ensures.0 c.put_word.ensures c.put_word-2.ensures,
+  omega (arith, c.run_from-ran.ensures.1.0, c.smaller-n.ensures),
+)
 
 pub run_most_spec : {M : Type 1} → statement M
 run_most_spec =
@@ -51,5 +41,5 @@ run_most_spec =
     (search rules) (search rules) (search rules) (search rules) (search rules)
     (λ c. omega (arith, in_code (ready c.before)))
     (search rules) run_from_requires (search rules) (search rules)
-    (λ c κs. let h = (entry c.before.before.before.before.before.before.before.before.before).pre.0.long in search rules)
+    (λ c κs. let h = c.requires.0.long in search rules)
     (search rules) returns_4)
