@@ -11,4 +11,4 @@ compile_number_spec =
     (λ c. search rules)
     (λ c κs. search rules)
     (λ c κs. search rules)
-    (λ c. judged_number _ _ _ _ c.before.before.judge-sheet.ensures c.judgement-number.ensures))
+    (λ c. judged_number _ _ _ _ c.before.before.judge_sheet-judgement.ensures c.judgement_number.ensures))
