@@ -5,90 +5,80 @@ use Rattle.run_frame.proofs.Laws.{Turn, begin, all_made, full, idle, refused, fe
 use Rattle.run_frame.proofs.frame_in.Statement.{statement}
 use Rattle.run_frame.proofs.frame_in.Tie as tie
 
-abbrev invariant-loop : tie.invariant-loop
+abbrev invariant-loop : tie.invariant-loop-left
 invariant-loop table round₀ steps room commits₀ left₀ written₀ round commits left written = Turn table round₀ steps room commits₀ round commits left written
 
-abbrev decreases-loop : tie.decreases-loop
+abbrev decreases-loop : tie.decreases-loop-left
 decreases-loop table round₀ steps room commits₀ left₀ written₀ round commits left written = left
 
-returns : tie.Need-returns invariant-loop decreases-loop
+returns : tie.Need-returns-then-room-written invariant-loop decreases-loop
 returns c =
-    full c.before.before.before.before.before.loop.invariant
-    c.before.before.before.before.loop-test.true c.before.before.before.if1.true
-    c.before.idle-or.ensures.0 c.frame-answer.ensures
+    full c.loop-left.invariant
+    c.loop-left-test.true c.if-room-written.true
+    c.idle_or.ensures.0 c.frame_answer.ensures
 
-sub_frame_answer_2 : tie.Need-overflow-sub-frame-answer-2 invariant-loop decreases-loop
+sub_frame_answer_2 : tie.Need-overflow_sub-steps-then-answer-eq-IDLE invariant-loop decreases-loop
 sub_frame_answer_2 c =
-    let at_loop = c.before.before.before.before.before.before.before in
-    let u = at_loop.loop.invariant in
-    omega (arith, fewer u (omega arith) (omega arith) c.before.before.before.burst-on.ensures.0)
+    let u = c.loop-left.invariant in
+    omega (arith, fewer u (omega arith) (omega arith) c.burst_on-stop.ensures.0)
 
-frame_answer_requires_2 : tie.Need-frame-answer-requires-2 invariant-loop decreases-loop
+frame_answer_requires_2 : tie.Need-frame_answer-requires-then-answer-eq-IDLE invariant-loop decreases-loop
 frame_answer_requires_2 c κs =
-    let at_loop = c.before.before.before.before.before.before.before in
-    let u = at_loop.loop.invariant in
+    let u = c.loop-left.invariant in
     omega arith
 
-returns_2 : tie.Need-returns-2 invariant-loop decreases-loop
+returns_2 : tie.Need-returns-then-answer-eq-IDLE invariant-loop decreases-loop
 returns_2 c =
-    let at_loop = c.before.before.before.before.before.before.before.before in
-    idle at_loop.loop.invariant (omega arith) (omega arith) c.before.before.before.before.burst-on.ensures.0
-    c.before.if2.true c.frame-answer2.ensures
+    idle c.loop-left.invariant (omega arith) (omega arith) c.burst_on-stop.ensures.0
+    c.if-answer-eq-IDLE.true c.frame_answer-then-answer-eq-IDLE.ensures
 
-sub_frame_answer_3 : tie.Need-overflow-sub-frame-answer-3 invariant-loop decreases-loop
+sub_frame_answer_3 : tie.Need-overflow_sub-steps-then-answer-eq-FOREIGN invariant-loop decreases-loop
 sub_frame_answer_3 c =
-    let at_loop = c.before.before.before.before.before.before.before.before in
-    let u = at_loop.loop.invariant in
-    omega (arith, fewer u (omega arith) (omega arith) c.before.before.before.before.burst-on.ensures.0)
+    let u = c.loop-left.invariant in
+    omega (arith, fewer u (omega arith) (omega arith) c.burst_on-stop.ensures.0)
 
-frame_answer_requires_3 : tie.Need-frame-answer-requires-3 invariant-loop decreases-loop
+frame_answer_requires_3 : tie.Need-frame_answer-requires-then-answer-eq-FOREIGN invariant-loop decreases-loop
 frame_answer_requires_3 c κs =
-    let at_loop = c.before.before.before.before.before.before.before.before in
-    let u = at_loop.loop.invariant in
+    let u = c.loop-left.invariant in
     omega arith
 
-returns_3 : tie.Need-returns-3 invariant-loop decreases-loop
+returns_3 : tie.Need-returns-then-answer-eq-FOREIGN invariant-loop decreases-loop
 returns_3 c =
-    let at_burst_on = c.before.before.before.before.before in
-    refused at_burst_on.before.before.before.before.loop.invariant (omega arith) (omega arith)
-    at_burst_on.burst-on.ensures.0 c.before.if3.true c.frame-answer3.ensures
+    refused c.loop-left.invariant (omega arith) (omega arith)
+    c.burst_on-stop.ensures.0 c.if-answer-eq-FOREIGN.true c.frame_answer-then-answer-eq-FOREIGN.ensures
 
-loop_less : tie.Need-loop-smaller invariant-loop decreases-loop
+loop_less : tie.Need-loop-left-smaller invariant-loop decreases-loop
 loop_less c =
-    let at_if3 = c.before.before.before.before in
-    let at_loop = at_if3.before.before.before.before.before.before.before.before in
-    falls at_loop.loop.invariant (omega arith) (omega arith)
-    at_if3.before.before.before.before.burst-on.ensures.0 at_if3.before.if2.false at_if3.if3.false
+    falls c.loop-left.invariant (omega arith) (omega arith)
+    c.burst_on-stop.ensures.0 c.if-answer-eq-IDLE.false c.if-answer-eq-FOREIGN.false
 
-loop_again : tie.Need-loop-preserved invariant-loop decreases-loop
+loop_again : tie.Need-loop-left-preserved invariant-loop decreases-loop
 loop_again c =
-    let at_if3 = c.before.before.before.before in
-    let at_burst_on = at_if3.before.before.before.before in
-    turn at_burst_on.before.before.before.before.loop.invariant (omega arith) (omega arith)
-    at_burst_on.burst-on.ensures.0 at_if3.before.if2.false at_if3.if3.false
-    at_burst_on.burst-on.ensures.1
-    c.before.before.note.ensures.0 c.before.before.note.ensures.1 (search rules)
+    turn c.loop-left.invariant (omega arith) (omega arith)
+    c.burst_on-stop.ensures.0 c.if-answer-eq-IDLE.false c.if-answer-eq-FOREIGN.false
+    c.burst_on-stop.ensures.1
+    c.note-written.ensures.0 c.note-written.ensures.1 (search rules)
 
-returns_4 : tie.Need-returns-4 invariant-loop decreases-loop
+returns_4 : tie.Need-returns invariant-loop decreases-loop
 returns_4 c =
-    all_made c.before.before.before.before.loop.invariant (omega arith)
-    c.before.before.before.loop-test.false c.before.idle-or2.ensures.0 c.frame-answer4.ensures
+    all_made c.loop-left.invariant (omega arith)
+    c.loop-left-test.false c.idle_or-2.ensures.0 c.frame_answer-2.ensures
 
 pub frame_in_spec : {M : Type 1} → statement M
 frame_in_spec =
     tie.close
     (tie.spec invariant-loop decreases-loop
-    (λ c. begin c.before.before.before.requires.0)
-    (λ c κs. (c.before.before.before.loop.invariant.sound, omega arith))
+    (λ c. begin c.requires.0)
+    (λ c κs. (c.loop-left.invariant.sound, omega arith))
     (omega arith) (omega arith)
-    (λ c. c.before.before.before.before.before.loop.invariant.round_long)
-    (λ c. c.before.before.before.before.before.loop.invariant.commits_long)
+    (λ c. c.loop-left.invariant.round_long)
+    (λ c. c.loop-left.invariant.commits_long)
     returns
-    (λ c κs. c.before.before.before.loop.invariant.sound)
+    (λ c κs. c.loop-left.invariant.sound)
     sub_frame_answer_2 frame_answer_requires_2 (omega arith) (omega arith) returns_2 sub_frame_answer_3 frame_answer_requires_3
     (omega arith) (omega arith) returns_3 (omega arith) loop_less loop_again
-    (λ c κs. (c.before.before.loop.invariant.sound, omega arith))
+    (λ c κs. (c.loop-left.invariant.sound, omega arith))
     (omega arith)
-    (λ c. c.before.before.before.before.loop.invariant.round_long)
-    (λ c. c.before.before.before.before.loop.invariant.commits_long)
+    (λ c. c.loop-left.invariant.round_long)
+    (λ c. c.loop-left.invariant.commits_long)
     returns_4)

@@ -13,5 +13,5 @@ note_spec =
     (λ c κs. search rules)
     (λ c. search rules)
     (λ c. search rules)
-    (λ c. (search code depth 12, rw c.before.before.put-answer.ensures (search code depth 12)))
+    (λ c. (search code depth 12, rw c.before.before.put_answer.ensures (search code depth 12)))
     (λ c. (search code depth 12, search code depth 12)))
