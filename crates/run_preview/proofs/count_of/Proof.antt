@@ -25,8 +25,8 @@ count_of_spec =
     (λ c κs. search rules)
     (λ c. search rules)
     (λ c. search rules)
-    (λ c. omega (arith, small c.before.before.in_hand_law.result c.longest-of.result c.before.before.in_hand_law.ensures.1 c.longest-of.ensures.1))
+    (λ c. omega (arith, small c.before.before.in_hand-k.result c.longest_of-longest.result c.before.before.in_hand-k.ensures.1 c.longest_of-longest.ensures.1))
     (λ c. (
-      put_together _ _ c.before.before.before.before.get-word.ensures c.before.before.before.get-word2.ensures c.before.get-word3.ensures c.before.before.in_hand_law.ensures.0 c.longest-of.ensures.0,
-      small c.before.before.in_hand_law.result c.longest-of.result c.before.before.in_hand_law.ensures.1 c.longest-of.ensures.1,
+      put_together _ _ c.before.before.before.before.get_word.ensures c.before.before.before.get_word-2.ensures c.before.get_word-events.ensures c.before.before.in_hand-k.ensures.0 c.longest_of-longest.ensures.0,
+      small c.before.before.in_hand-k.result c.longest_of-longest.result c.before.before.in_hand-k.ensures.1 c.longest_of-longest.ensures.1,
     )))

@@ -25,7 +25,7 @@ pub preview_at_spec : {M : Type 1} → statement M
 preview_at_spec =
     tie.close
     (tie.spec
-    (λ c. too_short _ _ _ _ _ c.if1.true)
+    (λ c. too_short _ _ _ _ _ c.if-round-lt-BYTES.true)
     (λ c. search rules)
     (λ c. search rules)
     (λ c. search rules)
@@ -34,5 +34,5 @@ preview_at_spec =
     (λ c. search rules)
     (λ c κs. search rules)
     (λ c.
-    together _ _ (replicate 2048 0) _ _ _ (omega arith) (length-replicate {A = ℕ} 2048 0) c.before.before.before.before.copy2.ensures.1
-    c.before.preview-copy.ensures))
+    together _ _ (replicate 2048 0) _ _ _ (omega arith) (length-replicate {A = ℕ} 2048 0) c.copy-2-1.ensures.1
+    c.preview_copy.ensures))

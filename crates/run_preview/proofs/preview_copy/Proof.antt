@@ -36,63 +36,58 @@ module _ (t l : List ℕ) (e i who : ℕ) {a : ℕ} {m : List ℕ} (arrival : ca
       unfolding preview_after preview_taken preview_seen
       seen h g = together (rw (eq-eqb a 0 taken, ← count, lt-leb n i there, ← right, h) g)
 
-get_word_requires : tie.Need-get-word-requires
+get_word_requires : tie.Need-get_word-requires
 get_word_requires c κs =
-    let s = arrive_sound _ _ _ _ c.before.before.before.arrive-at.ensures.0 c.if1.false in
+    let s = arrive_sound _ _ _ _ c.arrive_at-a.ensures.0 c.if-a-ne0.false in
     omega (arith, s.whole)
 
-returns_2 : tie.Need-returns-2
+returns_2 : tie.Need-returns-then-get_word-behaviour
 returns_2 c =
-    no_behaviour_law _ _ _ _ _ c.before.before.before.before.before.arrive-at.ensures.0
-    c.before.before.if1.false c.before.get-word.ensures c.if2.true
+    no_behaviour_law _ _ _ _ _ c.arrive_at-a.ensures.0
+    c.if-a-ne0.false c.get_word.ensures c.if-get_word-behaviour.true
 
-may_see_requires : tie.Need-may-see-requires
+may_see_requires : tie.Need-may_see-requires
 may_see_requires c κs =
-    let at_arrive_at = c.before.before.before.before.before in
-    let s = arrive_sound _ _ _ _ at_arrive_at.arrive-at.ensures.0 c.before.before.if1.false in
+    let s = arrive_sound _ _ _ _ c.arrive_at-a.ensures.0 c.if-a-ne0.false in
     omega (
       arith,
       s.whole,
       (table_bounds _ s.table).few_behaviours,
-      c.before.get-word.ensures,
-      c.if2.false,
-      at_arrive_at.arrive-at.ensures.1 c.before.before.if1.false,
+      c.get_word.ensures,
+      c.if-get_word-behaviour.false,
+      c.arrive_at-a.ensures.1 c.if-a-ne0.false,
     )
 
-returns_3 : tie.Need-returns-3
+returns_3 : tie.Need-returns-then-not-may_see
 returns_3 c =
-    let at_if1 = c.before.before.before.before in
-    unseen _ _ _ _ _ at_if1.before.before.before.arrive-at.ensures.0 at_if1.if1.false
-    c.before.before.before.get-word.ensures c.before.before.if2.false c.before.may-see.ensures
-    (not-true _ c.if3.true)
+    unseen _ _ _ _ _ c.arrive_at-a.ensures.0 c.if-a-ne0.false
+    c.get_word.ensures c.if-get_word-behaviour.false c.may_see.ensures
+    (not-true _ c.if-not-may_see.true)
 
-shown_in_requires : tie.Need-shown-in-requires
+shown_in_requires : tie.Need-shown_in-requires
 shown_in_requires c κs =
-    let at_if1 = c.before.before.before.before.before in
-    let s = arrive_sound _ _ _ _ at_if1.before.before.before.arrive-at.ensures.0 at_if1.if1.false in (
+    let s = arrive_sound _ _ _ _ c.arrive_at-a.ensures.0 c.if-a-ne0.false in (
       table_bounds _ s.table,
       s,
       omega (
         arith,
         (table_bounds _ s.table).few_behaviours,
-        c.before.before.before.before.get-word.ensures,
-        c.before.before.before.if2.false,
+        c.get_word.ensures,
+        c.if-get_word-behaviour.false,
       ),
     )
 
-returns_4 : tie.Need-returns-4
+returns_4 : tie.Need-returns
 returns_4 c =
-    let at_if3 = c.before.before.before.before in
-    let at_if1 = at_if3.before.before.before.before in
-    seen _ _ _ _ _ at_if1.before.before.before.arrive-at.ensures.0 at_if1.if1.false
-    at_if3.before.before.before.get-word.ensures at_if3.before.before.if2.false
-    at_if3.before.may-see.ensures (not-false _ at_if3.if3.false)
-    c.before.before.shown-in.ensures
+    seen _ _ _ _ _ c.arrive_at-a.ensures.0 c.if-a-ne0.false
+    c.get_word.ensures c.if-get_word-behaviour.false
+    c.may_see.ensures (not-false _ c.if-not-may_see.false)
+    c.shown_in.ensures
 
 pub preview_copy_spec : {M : Type 1} → statement M
 preview_copy_spec =
     tie.close
     (tie.spec (search rules) (search rules) (search rules)
-    (λ c. refused _ _ _ _ _ c.before.before.before.arrive-at.ensures.0 c.if1.true)
+    (λ c. refused _ _ _ _ _ c.arrive_at-a.ensures.0 c.if-a-ne0.true)
     get_word_requires (search rules) returns_2 may_see_requires (search rules) returns_3 shown_in_requires
     (search rules) returns_4)

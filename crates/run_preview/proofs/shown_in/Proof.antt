@@ -23,4 +23,4 @@ shown_in_spec =
     (λ c κs. search rules)
     (λ c κs. search rules)
     (λ c. search rules)
-    (λ c. together _ _ _ c.before.before.before.before.before.before.before.count_of.ensures.0 c.before.before.before.before.before.run-to-idle.ensures c.before.get-word.ensures c.shown_by.ensures))
+    (λ c. together _ _ _ c.count_of-most.ensures.0 c.run_to_idle-answer.ensures c.get_word.ensures c.shown_by.ensures))
