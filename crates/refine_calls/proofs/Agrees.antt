@@ -231,7 +231,9 @@ module _ (p : Program) (valid : Valid p) (t : List ℕ) (table : Says p t) where
       let ih = best_leads l n (λ i b. h i (omega arith)) in
       let j = best t l n in
       let b = slot l j in
-      rw (table.priorities (event_at l n) (h n (omega arith)), table.priorities (event_at l j) (h j (omega arith)))
+      let chosen : best t l (suc n) ≡ pick (before p (slot l n) b) n j =
+      rw (table.priorities (event_at l n) (h n (omega arith)), table.priorities (event_at l j) (h j (omega arith))) refl in
+      subst (λ (x : ℕ). All (Leads p (slot l x)) (slots l (suc n)) × (x ≤ suc n - 1)) (sym chosen)
       (by_test (λ (x : ℕ). All (Leads p (slot l x)) (slots l (suc n)) × (x ≤ suc n - 1)) (before p (slot l n) b)
       (λ e.
       let s = (before_says p (slot l n) b).0 e in

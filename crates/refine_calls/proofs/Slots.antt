@@ -1,6 +1,6 @@
 -- The queue and the head of the round in the bytes, and what each write leaves of them. Word by word from the laws of
 -- `put`.
-use Rattle.lib_base.proofs.Prelude.{ℕ, ◌≤◌, ◌<◌, ◌+◌, suc, zero, ◌*◌, ◌≡◌, refl, ◌∙◌, sym, ap, true, ◌≢◌, List, ◌∷◌}
+use Rattle.lib_base.proofs.Prelude.{ℕ, ◌≤◌, ◌<◌, ◌+◌, suc, zero, ◌*◌, ◌≡◌, refl, ◌∙◌, sym, ap, subst, true, ◌≢◌, List, ◌∷◌}
 use Rattle.lib_base.proofs.Prelude.{List-as-Permᴰ, List·Permᴰ·trans, List·Permᴰ·cons, List·Permᴰ·swap, Permᴰ·refl, length}
 use Rattle.lib_base.proofs.Prelude.{get_or, get_or-set_other, eqb, ltb, add-one, eqb-true, eqb-false, ltb-true, leb-true}
 use Rattle.lib_base.proofs.Prelude.{arith}
@@ -81,7 +81,10 @@ unfolding slots
 slots_swap l i m e zero g b h = absurd (omega arith)
 slots_swap l i m e (suc n) g b h =
     split (eqb i n)
-    (λ p. rw (eqb-true i n p, slots_above l n m e n (omega arith)) (List·Permᴰ·swap (sym (slot_same l n m e g (omega arith))) refl))
+    (λ p.
+    subst (λ (j : ℕ). List-as-Permᴰ (arrival_of m e ∷ slots l (suc n)) (slot l j ∷ slots (put_slot l j m e) (suc n)))
+    (sym (eqb-true i n p))
+    (rw (slots_above l n m e n (omega arith)) (List·Permᴰ·swap (sym (slot_same l n m e g (omega arith))) refl)))
     (λ p.
     let d : i ≢ n = eqb-false i n p in
     List·Permᴰ·trans (List·Permᴰ·swap refl refl)
