@@ -62,7 +62,7 @@ returns_3 : tie.Need-returns-then-not-may_see
 returns_3 c =
     unseen _ _ _ _ _ c.arrive_at-a.ensures.0 c.if-a-ne0.false
     c.get_word.ensures c.if-get_word-behaviour.false c.may_see.ensures
-    (not-true _ c.if-not-may_see.true)
+    c.if-not-may_see.true
 
 shown_in_requires : tie.Need-shown_in-requires
 shown_in_requires c κs =
@@ -81,7 +81,7 @@ returns_4 : tie.Need-returns
 returns_4 c =
     seen _ _ _ _ _ c.arrive_at-a.ensures.0 c.if-a-ne0.false
     c.get_word.ensures c.if-get_word-behaviour.false
-    c.may_see.ensures (not-false _ c.if-not-may_see.false)
+    c.may_see.ensures c.if-not-may_see.false
     c.shown_in.ensures
 
 pub preview_copy_spec : {M : Type 1} → statement M
