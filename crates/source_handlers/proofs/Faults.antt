@@ -1,6 +1,6 @@
 -- The first fault of names over the parts of a list, from left to right: a fault's word is never 0, so that the first
 -- word that is not tells it.
-use Rattle.lib_base.proofs.Prelude.{ℕ, ◌<◌, ◌+◌, ◌≡◌, refl, false, List, [], ◌∷◌, ◌++◌, eqb, ne_eqb, arith}
+use Rattle.lib_base.proofs.Prelude.{ℕ, ◌<◌, ◌≡◌, refl, false, List, [], ◌∷◌, ◌++◌, eqb, ne_eqb, arith}
 use Rattle.source_language.specs.Faults.{Kind, outside, too_large, off_scale, tooMany, declaredTwice, secondHandler, too_deep, unknown_name, noSuchCell, longSheet, shortBuffer, longText, OrFault, fault, fine, and_then}
 use Rattle.source_coding.specs.Faults.{fault_number}
 use Rattle.source_coding.specs.FaultWords.{fault_word, fault_in, first_fault}

@@ -11,7 +11,7 @@ use Rattle.source_due.specs.declared.Due.TheVariants as D
 use Rattle.source_field.specs.declared.Read.TheVariants as R
 use Rattle.source_field.specs.Formula.{FormulaWritten, FormulaRead}
 use Rattle.source_handlers.specs.declared.Part.{Part}
-use Rattle.source_handlers.specs.declared.Part.TheVariants.{Done, Fault}
+use Rattle.source_handlers.specs.declared.Part.TheVariants.{Fault}
 use Rattle.source_handlers.specs.Parts.{Coding, PartAgrees, DueRead}
 
 module _ {A B C : Type 0} (k : Coding B C) (text : List ℕ) (n : ℕ) (o p : List ℕ) (h : A → List SheetToken → Phrased B) where

@@ -5,7 +5,7 @@ use Rattle.spec_language.specs.Syntax.{Phase, immediate, later}
 use Rattle.spec_language.specs.Sheet.{Clause, clause}
 use Rattle.spec_language.specs.Grammar.{encode_phase, encode_handler, encode_handlers}
 use Rattle.source_language.specs.Tokens.{SheetToken, colon, later_word}
-use Rattle.source_language.specs.Text.{Phrase, Reaction, on, TextEvent}
+use Rattle.source_language.specs.Text.{Reaction, on, TextEvent}
 use Rattle.source_language.specs.Faults.{secondHandler, unknown_name, OrFault, fine, and_then}
 use Rattle.source_language.specs.Limits.{among, after_all, with_event}
 use Rattle.source_language.specs.Meaning.{NameMeaning, event_named, term_of, clauses_of}

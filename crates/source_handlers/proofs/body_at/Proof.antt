@@ -8,73 +8,73 @@ use Rattle.source_declarations.specs.Written.{due_fault}
 use Rattle.source_handlers.proofs.body_at.Statement.{statement}
 use Rattle.source_handlers.proofs.body_at.Tie as tie
 
-returns : tie.Need-returns
+returns : tie.Need-returns-in_default
 returns c =
-    let e = c.before.enum_told.given.1 in
-    let f = c.before.before.before in
-    let a = f.before.before.before.before.before.args in
-    let h = rw e at f.phase-due.ensures.0 in
-    rw (c.fault_in_law.ensures ∙ ap due_fault e)
-    (phase_refused a.text.now (meaning_by a.text.now a.places.now a.cursor.sorted a.meanings.now) a.cursor.cells a.e a.cursor.at a.cursor.end a.out.now _ _ h, (tt, search rules))
+    let e = c.in_default.is in
+    let f = c in
+    let a = f.args in
+    let h = rw e at f.phase_due-d.ensures.0 in
+    rw (c.fault_in.ensures ∙ ap due_fault e)
+    (phase_refused a.text.now (meaning_by a.text.now a.places.now a.cursor.sorted a.meanings.now) a.cursor.cells a.e a.cursor.at a.cursor.end a.out.now a.out.now _ h, (tt, search rules))
 
-cast_put_handler_2 : tie.Need-overflow-cast-put-handler-2
+cast_put_handler_2 : tie.Need-overflow_cast-phase
 cast_put_handler_2 c =
-    let d = c.before.before in
-    let g = rw d.d.given.1 at d.before.before.phase-due.ensures.1 in
+    let d = c in
+    let g = rw d.in-Found.is at d.phase_due-d.ensures.1 in
     omega arith
 
-formula_at_requires : tie.Need-formula-at-requires
+formula_at_requires : tie.Need-formula_at-r-requires
 formula_at_requires c κs =
-    let b = c.before.before.before in
-    let d = b.before.before.before in
-    let q = d.before.before in
-    let s = q.before.before.before.before.before in
+    let b = c in
+    let d = b in
+    let q = d in
+    let s = q in
     let a = s.args in
-    let i = rw d.d.given.1 at q.phase-due.ensures.1 in
-    let l = ap length b.put-handler.ensures ∙ fitted_long a.out.now _ _ in
+    let i = rw d.in-Found.is at q.phase_due-d.ensures.1 in
+    let l = ap length b.put_handler.ensures ∙ fitted_long a.out.now _ _ in
     ((s.requires.0.0, (i.1, (omega (arith, s.requires.0.1.1.0), (s.requires.0.1.1.1.0, s.requires.0.1.1.1.1)))), omega (arith, l, s.requires.1.1))
 
-returns_2 : tie.Need-returns-2
+returns_2 : tie.Need-returns-in_default-r
 returns_2 c =
-    let f = c.before.before.before.before.before in
-    let b = f.before.before.before.before in
-    let d = b.before.before.before in
-    let q = d.before.before in
-    let a = q.before.before.before.before.before.args in
-    let e = c.before.enum-told2.given.1 in
-    let h = rw d.d.given.1 at q.phase-due.ensures.0 in
-    let g = rw e at f.formula-at.ensures.0 in
-    let l = f.formula-at.ensures.1.1.1 in
-    rw (c.refused-formula.ensures ∙ ap refused_read e)
-    (formula_refused a.text.now (meaning_by a.text.now a.places.now a.cursor.sorted a.meanings.now) a.cursor.cells a.e a.cursor.at a.cursor.end a.out.now _ _ _ h _ _ _ _ _ g, (tt, l ∙ b.put-handler.auto.0))
+    let f = c in
+    let b = f in
+    let d = b in
+    let q = d in
+    let a = q.args in
+    let e = c.in_default-r.is in
+    let h = rw d.in-Found.is at q.phase_due-d.ensures.0 in
+    let g = rw e at f.formula_at-r.ensures.0 in
+    let l = f.formula_at-r.ensures.1.1.1 in
+    rw (c.refused_formula.ensures ∙ ap refused_read e)
+    (formula_refused a.text.now (meaning_by a.text.now a.places.now a.cursor.sorted a.meanings.now) a.cursor.cells a.e a.cursor.at a.cursor.end a.out.now 0 _ _ h 0 a.out.now a.out.now a.out.now _ g, (tt, l ∙ b.put_handler.auto.out))
 
 enclose_requires : tie.Need-enclose-requires
 enclose_requires c κs =
-    let f = c.before.before.before.before.before.before in
-    let g = rw c.before.before.r.given.1 at f.formula-at.ensures.1.0 in
-    let b = f.before.before.before.before in
-    let q = b.before.before.before.before.before in
-    let s = q.before.before.before.before.before in
-    let l = f.formula-at.ensures.1.1.1 ∙ b.put-handler.auto.0 in
+    let f = c in
+    let g = rw c.in-Done.is at f.formula_at-r.ensures.1.0 in
+    let b = f in
+    let q = b in
+    let s = q in
+    let l = f.formula_at-r.ensures.1.1.1 ∙ b.put_handler.auto.out in
     (omega arith, omega (arith, l, s.requires.1.1))
 
-returns_3 : tie.Need-returns-3
+returns_3 : tie.Need-returns
 returns_3 c =
-    let t = c.before.before in
-    let r = t.before.before.before in
-    let f = r.before.before.before.before in
-    let b = f.before.before.before.before in
-    let d = b.before.before.before in
-    let q = d.before.before in
-    let s = q.before.before.before.before.before in
+    let t = c in
+    let r = t in
+    let f = r in
+    let b = f in
+    let d = b in
+    let q = d in
+    let s = q in
     let a = s.args in
-    let h = rw d.d.given.1 at q.phase-due.ensures.0 in
-    let i = rw d.d.given.1 at q.phase-due.ensures.1 in
-    let g = rw (r.r.given.1, b.put-handler.ensures) at f.formula-at.ensures.0 in
-    let k = rw r.r.given.1 at f.formula-at.ensures.1.0 in
-    let l = f.formula-at.ensures.1.1.1 ∙ b.put-handler.auto.0 in
+    let h = rw d.in-Found.is at q.phase_due-d.ensures.0 in
+    let i = rw d.in-Found.is at q.phase_due-d.ensures.1 in
+    let g = rw (r.in-Done.is, b.put_handler.ensures) at f.formula_at-r.ensures.0 in
+    let k = rw r.in-Done.is at f.formula_at-r.ensures.1.0 in
+    let l = f.formula_at-r.ensures.1.1.1 ∙ b.put_handler.auto.out in
     rw t.enclose.ensures (
-      handler_read a.text.now (meaning_by a.text.now a.places.now a.cursor.sorted a.meanings.now) a.cursor.cells a.e a.cursor.at a.cursor.end a.out.now _ _ _ h _ _ _ _ _ g (omega arith) s.requires.1.1 l,
+      handler_read a.text.now (meaning_by a.text.now a.places.now a.cursor.sorted a.meanings.now) a.cursor.cells a.e a.cursor.at a.cursor.end a.out.now 0 _ _ h _ _ _ _ _ g (omega arith) s.requires.1.1 l,
       (omega arith, enclosed_long 5 _ _ _ ∙ l),
     )
 
