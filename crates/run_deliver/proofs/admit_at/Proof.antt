@@ -6,9 +6,7 @@ use Rattle.run_deliver.proofs.admit_at.Tie as tie
 
 returns : tie.Need-returns
 returns c =
-    let second = c.before.before.before.before.before.before in
-    let slot = second.before.before.before.before in
-    joins _ _ _ _ slot.before.before.get-word.ensures slot.put-slot.ensures second.put_word.ensures c.before.before.put-word2.ensures
+    joins _ _ _ _ c.get_word-waiting.ensures c.put_slot.ensures c.put_word.ensures c.put_word-2.ensures
 
 pub admit_at_spec : {M : Type 1} → statement M
 admit_at_spec =

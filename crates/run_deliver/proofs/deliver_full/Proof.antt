@@ -6,35 +6,28 @@ use Rattle.run_deliver.proofs.Laws.{no_room, made_room, broke_off}
 use Rattle.run_deliver.proofs.deliver_full.Statement.{statement}
 use Rattle.run_deliver.proofs.deliver_full.Tie as tie
 
-returns : tie.Need-returns
-returns c = no_room _ _ _ _ _ _ c.before.if1.true c.delivery-answer.ensures
+returns : tie.Need-returns-then-commits-lt-COMMIT_BYTES
+returns c = no_room _ _ _ _ _ _ c.if-commits-lt-COMMIT_BYTES.true c.delivery_answer.ensures
 
-sub_made : tie.Need-overflow-sub-made
-sub_made c = omega (arith, left_at_most _ _ _ c.before.before.before.burst-on.ensures.0)
+sub_made : tie.Need-overflow_sub-made
+sub_made c = omega (arith, left_at_most _ _ _ c.burst_on-stop.ensures.0)
 
-admit_at_requires : tie.Need-admit-at-requires
+admit_at_requires : tie.Need-admit_at-requires
 admit_at_requires c κs =
-    let at_burst = c.before.before.before.before.before in
-    let at_start = at_burst.before.before.before.before.before.before in
-    let room = commit_room _ _ _ at_start.requires.0 at_burst.burst-on.ensures.0 c.before.if2.true in
-    (at_burst.burst-on.ensures.1.long, room, at_start.requires.1, at_start.requires.2, at_start.requires.3)
+    let room = commit_room _ _ _ c.requires.0 c.burst_on-stop.ensures.0 c.if-answer-eq-COMMITTED.true in
+    (c.burst_on-stop.ensures.1.long, room, c.requires.1, c.requires.2, c.requires.3)
 
-returns_2 : tie.Need-returns-2
+returns_2 : tie.Need-returns-then-answer-eq-COMMITTED
 returns_2 c =
-    let at_put = c.before.before.before in
-    let at_admit = at_put.before.before.before.before in
-    let at_if = at_admit.before.before in
-    let at_burst = at_if.before.before.before.before in
-    made_room _ _ _ _ _ _ at_burst.before.before.if1.false at_burst.burst-on.ensures.0 at_if.if2.true
-    at_admit.admit-at.ensures at_put.put-answer.ensures c.delivery-answer2.ensures
+    made_room _ _ _ _ _ _ c.if-commits-lt-COMMIT_BYTES.false c.burst_on-stop.ensures.0 c.if-answer-eq-COMMITTED.true
+    c.admit_at.ensures c.put_answer.ensures c.delivery_answer-then-answer-eq-COMMITTED.ensures
 
-returns_3 : tie.Need-returns-3
+returns_3 : tie.Need-returns
 returns_3 c =
-    let at_burst = c.before.before.before.before.before in
-    broke_off _ _ _ _ _ _ at_burst.before.before.if1.false at_burst.burst-on.ensures.0 c.before.if2.false c.delivery-answer3.ensures
+    broke_off _ _ _ _ _ _ c.if-commits-lt-COMMIT_BYTES.false c.burst_on-stop.ensures.0 c.if-answer-eq-COMMITTED.false c.delivery_answer-2.ensures
 
 pub deliver_full_spec : {M : Type 1} → statement M
 deliver_full_spec =
     tie.close
-    (tie.spec (search rules) returns (λ c κs. c.before.before.before.before.before.requires.0) sub_made admit_at_requires (search rules) (search rules) (search rules) (search rules) returns_2
+    (tie.spec (search rules) returns (λ c κs. c.requires.0) sub_made admit_at_requires (search rules) (search rules) (search rules) (search rules) returns_2
     (search rules) (search rules) returns_3)
