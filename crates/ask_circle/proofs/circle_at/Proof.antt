@@ -14,10 +14,10 @@ circle_at_spec =
     (λ c. search rules)
     (λ c κs. search rules)
     (λ c. search rules)
-    (λ c. not_circular _ _ _ _ _ c.before.before.before.judge-sheet.ensures c.before.match.keys2 c.judgement-number.ensures)
+    (λ c. not_circular _ _ _ _ _ c.judge_sheet-judgement.ensures c.in_default.in_default-own.keys2 c.judgement_number.ensures)
     (λ c. search rules)
     (λ c κs.
-    let w = judged_turns _ _ _ _ c.before.before.before.before.before.before.judge-sheet.ensures _ _ c.before.before.before.judgement.given.1 in
+    let w = judged_turns _ _ _ _ c.judge_sheet-judgement.ensures _ _ c.in-Circular.is in
     (turns_draft _ _ w, turns_wide _ _ w))
     (λ c. search rules)
-    (λ c. found_listed _ _ (judged_turns _ _ _ _ c.before.before.before.before.before.before.before.before.before.judge-sheet.ensures _ _ c.before.before.before.before.before.before.judgement.given.1) c.before.before.list-circle.ensures))
+    (λ c. found_listed _ _ (judged_turns _ _ _ _ c.judge_sheet-judgement.ensures _ _ c.in-Circular.is) c.list_circle.ensures))
