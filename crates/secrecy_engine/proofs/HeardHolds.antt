@@ -111,5 +111,6 @@ calls_other (c ∷ cs) = Forall₂.cons refl (calls_other cs)
 pub of_calls : (player : ℕ) (s z ps qs t₀ l₀ t₁ l₁ : List ℕ) (x y : Sheet) → TwoSheets player s z ps qs t₀ l₀ t₁ l₁ x y → Sealed (program_of ps x) player
     → (cs : List Call) → HeardAlike player (fresh_round_on s ps t₀ l₀) (map calling cs) (fresh_round_on z qs t₁ l₁) (map calling cs)
 of_calls player s z ps qs t₀ l₀ t₁ l₁ x y h k cs =
-    rule_on player s z ps qs t₀ l₀ t₁ l₁ x y h k (map both cs) (calls_fit _ cs (begun (program_of ps x)) (begun (program_of qs y)))
+    rule_on player s z ps qs t₀ l₀ t₁ l₁ x y h k (map both cs)
+    (calls_fit (λ p v w a b. AlikeAt player p v w a b × Sealed (fill v a) player) cs (begun (program_of ps x)) (begun (program_of qs y)))
     (map calling cs) (map calling cs) (calls_compile cs) (calls_compile cs) (calls_one cs) (calls_other cs)
