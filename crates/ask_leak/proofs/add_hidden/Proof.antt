@@ -8,8 +8,8 @@ pub add_hidden_spec : {M : Type 1} → statement M
 add_hidden_spec =
     tie.close
     (tie.spec
-    (λ c h. host_sees _ _ _ _ h c.if1.true)
+    (λ c h. host_sees _ _ _ _ h c.if-player-eq0.true)
     (λ c κs. search rules)
-    (λ c h. seen_stays _ _ _ _ h c.before.before.if1.false (sym c.before.contains.ensures ∙ c.if2.true))
+    (λ c h. seen_stays _ _ _ _ h c.if-player-eq0.false (sym c.contains.ensures ∙ c.if-contains.true))
     (λ c κs. search rules)
-    (λ c h. hidden_joins _ _ _ _ _ h c.before.before.before.if1.false (sym c.before.before.contains.ensures ∙ c.before.if2.false) (c.insert.ensures h)))
+    (λ c h. hidden_joins _ _ _ _ _ h c.if-player-eq0.false (sym c.contains.ensures ∙ c.if-contains.false) (c.insert.ensures h)))

@@ -15,10 +15,10 @@ one_more : (d : List ℕ) (player j set next : ℕ) → ((h : ℕ) → bit next 
 unfolding hidden_on
 one_more d player j set next f h b = f h
 
-abbrev invariant-loop : tie.invariant-loop
+abbrev invariant-loop : tie.invariant-loop-j
 invariant-loop d n player set₀ j₀ set j = Gathered 64 (λ h. false) (step d player) n set j
 
-abbrev decreases-loop : tie.decreases-loop
+abbrev decreases-loop : tie.decreases-loop-j
 decreases-loop d n player set₀ j₀ set j = n - j
 
 pub hidden_of_spec : {M : Type 1} → statement M
@@ -34,5 +34,5 @@ hidden_of_spec =
     (λ c κs. omega arith)
     (λ c. omega arith)
     (λ c. omega arith)
-    (λ c. turn c.before.before.before.loop.invariant (omega arith) (one_more _ _ _ _ _ c.add-hidden.ensures))
-    (λ c h b. end c.before.loop.invariant (omega arith) h (omega arith) ∙ any_own _ (hidden_on _ _) h b))
+    (λ c. turn c.loop-j.invariant (omega arith) (one_more _ _ _ _ _ c.add_hidden-set.ensures))
+    (λ c h b. end c.loop-j.invariant (omega arith) h (omega arith) ∙ any_own _ (hidden_on _ _) h b))

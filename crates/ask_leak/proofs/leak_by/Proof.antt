@@ -9,10 +9,10 @@ use Rattle.ask_leak.proofs.leak_by.Tie as tie
 abbrev answer : List ℕ → ℕ → ℕ → ℕ → ℕ → ℕ
 answer d ev n hidden = leak_from n (bit hidden) (names_any d ev)
 
-abbrev invariant-loop : tie.invariant-loop
+abbrev invariant-loop : tie.invariant-loop-i
 invariant-loop d ev n hidden i₀ i = Seeking (answer d ev n hidden) 0 n i
 
-abbrev decreases-loop : tie.decreases-loop
+abbrev decreases-loop : tie.decreases-loop-i
 decreases-loop d ev n hidden i₀ i = n - i
 
 pub leak_by_spec : {M : Type 1} → statement M
@@ -23,9 +23,9 @@ leak_by_spec =
     invariant-loop
     decreases-loop
     (λ c. seek _ _ _ (omega arith))
-    (λ c κs. let p = c.before.before.before.requires in (p.0, p.1, p.2, omega arith, p.3))
-    (λ c. c.before.leak-from.ensures ∙ seek_stop c.before.before.before.loop.invariant (omega arith) (λ z. c.if1.true (c.before.leak-from.ensures ∙ z)))
+    (λ c κs. let p = c.requires in (p.0, p.1, p.2, omega arith, p.3))
+    (λ c. c.leak_from-a.ensures ∙ seek_stop c.loop-i.invariant (omega arith) (λ z. c.if-a-ne0.true (c.leak_from-a.ensures ∙ z)))
     (λ c. omega arith)
     (λ c. omega arith)
-    (λ c. seek_on c.before.before.before.loop.invariant (omega arith) (sym c.before.leak-from.ensures ∙ c.if1.false))
-    (λ c. seek_end c.before.loop.invariant (omega arith)))
+    (λ c. seek_on c.loop-i.invariant (omega arith) (sym c.leak_from-a.ensures ∙ c.if-a-ne0.false))
+    (λ c. seek_end c.loop-i.invariant (omega arith)))

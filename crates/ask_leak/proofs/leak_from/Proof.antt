@@ -10,8 +10,8 @@ leak_from_spec =
     tie.close
     (tie.spec
     (λ c κs. omega arith)
-    (λ c. from_hidden _ (bit _) _ _ (sym c.before.contains.ensures ∙ c.if1.true))
+    (λ c. from_hidden _ (bit _) _ _ (sym c.contains.ensures ∙ c.if-contains.true))
     (λ c κs. search rules)
     (λ c κs. search rules)
     (λ c κs. omega arith)
-    (λ c. from_seen _ _ _ _ _ _ _ (omega arith) (sym c.before.before.before.before.contains.ensures ∙ c.before.before.before.if1.false) c.before.before.names_of.ensures c.before.common.ensures c.least-leak.ensures))
+    (λ c. from_seen _ _ _ _ _ _ _ (omega arith) (sym c.contains.ensures ∙ c.if-contains.false) c.names_of.ensures c.common.ensures c.least_leak.ensures))

@@ -10,4 +10,4 @@ leak_in_spec =
     (tie.spec
     (λ c κs. search rules)
     (λ c κs. search rules)
-    (λ c. c.leak-by.ensures ∙ leaking_on_law _ _ _ _ _ c.before.hidden-of.ensures))
+    (λ c. c.leak_by.ensures ∙ leaking_on_law _ _ _ _ _ c.hidden_of.ensures))

@@ -12,4 +12,4 @@ leak_of_spec =
     (tie.spec
     (λ c. search code depth 12)
     (λ c κs. search rules)
-    (λ c. rw (← c.leak-in.ensures) (search code depth 12)))
+    (λ c. rw (← c.leak_in.ensures) (search code depth 12)))

@@ -23,10 +23,10 @@ stop set n i j r {b} t h q s z =
 go : (set n i j : ℕ) {b : Bool} → Seeking (answer set i) 0 n j → j < n → b ≡ bit set j → b ≡ false → Seeking (answer set i) 0 n (j + 1)
 go set n i j t h q s = seek_on t h (rw (sym q ∙ s))
 
-abbrev invariant-loop : tie.invariant-loop
+abbrev invariant-loop : tie.invariant-loop-j
 invariant-loop set n i j₀ j = Seeking (answer set i) 0 n j
 
-abbrev decreases-loop : tie.decreases-loop
+abbrev decreases-loop : tie.decreases-loop-j
 decreases-loop set n i j₀ j = n - j
 
 pub least_leak_spec : {M : Type 1} → statement M
@@ -36,15 +36,15 @@ least_leak_spec =
     (tie.spec
     invariant-loop
     decreases-loop
-    (λ c. least_none _ _ _ c.if1.true)
+    (λ c. least_none _ _ _ c.if-set-eq0.true)
     (λ c. seek _ _ _ (omega arith))
     (λ c κs. omega arith)
     (λ c. omega arith)
     (λ c. omega arith)
     (λ c. omega arith)
     (λ c. omega arith)
-    (λ c. stop _ _ _ _ _ c.before.before.before.loop.invariant (omega arith) c.before.contains.ensures c.if2.true refl)
+    (λ c. stop _ _ _ _ _ c.loop-j.invariant (omega arith) c.contains.ensures c.if-contains.true refl)
     (λ c. omega arith)
     (λ c. omega arith)
-    (λ c. go _ _ _ _ c.before.before.before.loop.invariant (omega arith) c.before.contains.ensures c.if2.false)
-    (λ c. whole _ _ _ _ (seek_end c.before.loop.invariant (omega arith))))
+    (λ c. go _ _ _ _ c.loop-j.invariant (omega arith) c.contains.ensures c.if-contains.false)
+    (λ c. whole _ _ _ _ (seek_end c.loop-j.invariant (omega arith))))

@@ -17,10 +17,10 @@ one_more : (d : List ℕ) (i e v set names next : ℕ) → v ≡ entry_of d e i 
 unfolding names_on
 one_more d i e v set names next q g f j b = rw (← q, ← g j b) (f j)
 
-abbrev invariant-loop : tie.invariant-loop
+abbrev invariant-loop : tie.invariant-loop-e
 invariant-loop d ev i n set₀ e₀ set e = Gathered 64 (λ j. false) (step d i) (ev + 1) set e
 
-abbrev decreases-loop : tie.decreases-loop
+abbrev decreases-loop : tie.decreases-loop-e
 decreases-loop d ev i n set₀ e₀ set e = ev + 1 - e
 
 pub names_of_spec : {M : Type 1} → statement M
@@ -33,11 +33,11 @@ names_of_spec =
     (λ c. begin 64 _ _)
     (λ c κs. omega arith)
     (λ c κs.
-    let b = c.before.before.before.before.requires.4 c.before.before.loop.e (omega arith) c.before.before.before.before.args.i (omega arith) in
-    let h = rw (← c.entry_of_law.ensures) at b in
+    let b = c.requires.4 c.loop-e.e (omega arith) c.args.i (omega arith) in
+    let h = rw (← c.entry_of-v.ensures) at b in
     omega arith)
     (λ c κs. omega arith)
     (λ c. omega arith)
     (λ c. omega arith)
-    (λ c. turn c.before.before.before.before.loop.invariant (omega arith) (one_more _ _ _ _ _ _ _ c.before.before.entry_of_law.ensures c.before.names_in.ensures c.union-of.ensures))
-    (λ c. end c.before.loop.invariant (omega arith)))
+    (λ c. turn c.loop-e.invariant (omega arith) (one_more _ _ _ _ _ _ _ c.entry_of-v.ensures c.names_in.ensures c.union_of-set.ensures))
+    (λ c. end c.loop-e.invariant (omega arith)))
