@@ -15,4 +15,4 @@ clash_in_spec =
     (λ c. search rules)
     (λ c. search rules)
     (λ c κs. search rules)
-    (λ c. c.clash-by.ensures ∙ conflict_on_law _ _ _ c.before.before.before.before.before.before.before.fill-writes.new.1.1.1.0 c.before.before.before.before.fill-named.new.1.1.1.0 c.before.before.before.before.before.before.before.fill-writes.ensures c.before.before.before.before.fill-named.ensures))
+    (λ c. c.clash_by.ensures ∙ conflict_on_law _ _ _ c.fill_writes.new.writes c.fill_named.new.named c.fill_writes.ensures c.fill_named.ensures))

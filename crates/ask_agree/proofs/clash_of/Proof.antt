@@ -13,4 +13,4 @@ clash_of_spec =
     (λ c κs. search rules)
     (λ c κs. search rules)
     (λ c κs. search rules)
-    (λ c i. rw (c.union-of2.ensures i, c.before.before.common.ensures i, c.before.before.before.union-of.ensures i, c.before.common2.ensures i)))
+    (λ c i. rw (c.union_of-2.ensures i, c.common.ensures i, c.union_of.ensures i, c.common-2.ensures i)))

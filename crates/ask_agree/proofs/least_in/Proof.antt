@@ -25,30 +25,30 @@ stop set n e f i r {b} t h q s z =
 go : (set n e f i : ℕ) {b : Bool} → Seeking (answer set e f) 0 n i → i < n → b ≡ bit set i → b ≡ false → Seeking (answer set e f) 0 n (i + 1)
 go set n e f i t h q s = seek_on t h (rw (sym q ∙ s))
 
-abbrev invariant-loop : tie.invariant-loop
+abbrev invariant-loop : tie.invariant-loop-i
 invariant-loop set n e f i₀ i = Seeking (answer set e f) 0 n i
 
-abbrev decreases-loop : tie.decreases-loop
+abbrev decreases-loop : tie.decreases-loop-i
 decreases-loop set n e f i₀ i = n - i
 
-returns_2 : tie.Need-returns-2 invariant-loop decreases-loop
+returns_2 : tie.Need-returns-then-contains invariant-loop decreases-loop
 unfolding packed_difference
 returns_2 c =
-    stop _ _ _ _ _ _ c.before.before.before.loop.invariant (omega arith) c.before.contains.ensures
-    c.if2.true refl
+    stop _ _ _ _ _ _ c.loop-i.invariant (omega arith) c.contains.ensures
+    c.if-contains.true refl
 
-loop_again : tie.Need-loop-preserved invariant-loop decreases-loop
+loop_again : tie.Need-loop-i-preserved invariant-loop decreases-loop
 unfolding packed_difference
 loop_again c =
-    go _ _ _ _ _ c.before.before.before.loop.invariant (omega arith) c.before.contains.ensures c.if2.false
+    go _ _ _ _ _ c.loop-i.invariant (omega arith) c.contains.ensures c.if-contains.false
 
 pub least_in_spec : {M : Type 1} → statement M
 unfolding packed_difference
 least_in_spec =
     tie.close
     (tie.spec invariant-loop decreases-loop
-    (λ c. least_none _ _ _ _ c.if1.true)
+    (λ c. least_none _ _ _ _ c.if-set-eq0.true)
     (λ c. seek _ _ _ (omega arith))
     (omega arith) (omega arith) (omega arith) (omega arith) (omega arith) (omega arith) (omega arith) returns_2
     (omega arith) (omega arith) loop_again
-    (λ c. whole _ _ _ _ _ (seek_end c.before.loop.invariant (omega arith))))
+    (λ c. whole _ _ _ _ _ (seek_end c.loop-i.invariant (omega arith))))
