@@ -8,7 +8,6 @@ use Rattle.spec_language.specs.Sheet.{Clause, Item, formula, state, row}
 use Rattle.spec_language.specs.Grammar.{tag_of, encode_expr, encode_item, encode_handlers}
 use Rattle.source_language.specs.Tokens.{SheetToken, sign, equals, passive_word}
 use Rattle.source_language.specs.Text.{TextConstant, Phrase, Reaction, passive, TextEvent, TextBehaviour, behaviour}
-use Rattle.source_language.specs.Text as T
 use Rattle.source_language.specs.Faults.{outside, fine, and_then}
 use Rattle.source_language.specs.Limits.{after_all, with_event}
 use Rattle.source_language.specs.Meaning.{NameMeaning, constant_word, term_of, clauses_of, item_of}

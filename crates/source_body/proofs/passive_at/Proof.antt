@@ -11,117 +11,73 @@ use Rattle.source_names.specs.Known.{meaning_by}
 use Rattle.source_body.proofs.passive_at.Statement.{statement}
 use Rattle.source_body.proofs.passive_at.Tie as tie
 
-returns : tie.Need-returns
+returns : tie.Need-returns-in_default
 returns c =
-    let at_enum_told = c.before in
-    let at_sign_due = at_enum_told.before.before in
-    let at_entry_lem = at_sign_due.before.before.before.before.before in
-    let a = at_entry_lem.args in
-    let e = at_enum_told.enum_told.given.1 in
-    let h = rw e at at_sign_due.sign-due.ensures.0 in
-    rw (c.fault_in_law.ensures ∙ ap due_fault e) (passive_unsigned a.text.now (meaning_by a.text.now a.places.now a.cursor.sorted a.meanings.now) a.cursor.at a.cursor.end a.out.now _ _ h, (tt, search rules))
+    let a = c.args in
+    let e = c.in_default.is in
+    let h = rw e at c.sign_due-d.ensures.0 in
+    rw (c.fault_in.ensures ∙ ap due_fault e) (passive_unsigned a.text.now (meaning_by a.text.now a.places.now a.cursor.sorted a.meanings.now) a.cursor.at a.cursor.end a.out.now a.out.now _ h, (tt, search rules))
 
-formula_at_requires : tie.Need-formula-at-requires
+formula_at_requires : tie.Need-formula_at-r-requires
 formula_at_requires c κs =
-    let at_d = c.before.before in
-    let at_sign_due = at_d.before.before in
-    let at_entry_lem = at_sign_due.before.before.before.before.before in
-    let p = at_entry_lem.requires in
-    let g = rw at_d.d.given.1 at at_sign_due.sign-due.ensures.1 in
+    let p = c.requires in
+    let g = rw c.in-Found.is at c.sign_due-d.ensures.1 in
     let l = p.0.1.1.0 in
     ((p.0.0, (g.2, (omega arith, (p.0.1.1.1.0, p.0.1.1.1.1)))), omega (arith, p.1))
 
-returns_2 : tie.Need-returns-2
+returns_2 : tie.Need-returns-in_default-r
 returns_2 c =
-    let at_enum_told2 = c.before in
-    let at_formula_at = at_enum_told2.before.before.before.before in
-    let at_d = at_formula_at.before.before.before in
-    let at_sign_due = at_d.before.before in
-    let at_entry_lem = at_sign_due.before.before.before.before.before in
-    let a = at_entry_lem.args in
-    let e = at_enum_told2.enum-told2.given.1 in
-    let h = rw at_d.d.given.1 at at_sign_due.sign-due.ensures.0 in
-    let f = rw e at at_formula_at.formula-at.ensures.0 in
-    rw (c.refused-formula.ensures ∙ ap refused_read e) (passive_formula a.text.now (meaning_by a.text.now a.places.now a.cursor.sorted a.meanings.now) a.cursor.at a.cursor.end a.out.now _ _ h _ _ _ _ _ f, (tt, at_formula_at.formula-at.ensures.1.1.1))
+    let a = c.args in
+    let e = c.in_default-r.is in
+    let h = rw c.in-Found.is at c.sign_due-d.ensures.0 in
+    let f = rw e at c.formula_at-r.ensures.0 in
+    rw (c.refused_formula.ensures ∙ ap refused_read e) (passive_formula a.text.now (meaning_by a.text.now a.places.now a.cursor.sorted a.meanings.now) a.cursor.at a.cursor.end a.out.now _ _ h a.out.now a.out.now a.out.now 0 _ f, (tt, c.formula_at-r.ensures.1.1.1))
 
-seen_at_requires : tie.Need-seen-at-requires
+seen_at_requires : tie.Need-seen_at-s-requires
 seen_at_requires c κs =
-    let at_r = c.before in
-    let at_formula_at = at_r.before.before.before.before in
-    let at_sign_due = at_formula_at.before.before.before.before.before in
-    let at_entry_lem = at_sign_due.before.before.before.before.before in
-    let g = rw at_r.r.given.1 at at_formula_at.formula-at.ensures.1.0 in
-    (at_entry_lem.requires.0.0, g.1)
+    let g = rw c.in-Done.is at c.formula_at-r.ensures.1.0 in
+    (c.requires.0.0, g.1)
 
-returns_3 : tie.Need-returns-3
+returns_3 : tie.Need-returns-in_default-s
 returns_3 c =
-    let at_enum_told3 = c.before in
-    let at_seen_at = at_enum_told3.before.before in
-    let at_r = at_seen_at.before.before in
-    let at_formula_at = at_r.before.before.before.before in
-    let at_d = at_formula_at.before.before.before in
-    let at_sign_due = at_d.before.before in
-    let at_entry_lem = at_sign_due.before.before.before.before.before in
-    let a = at_entry_lem.args in
-    let e = at_enum_told3.enum-told3.given.1 in
-    let h = rw at_d.d.given.1 at at_sign_due.sign-due.ensures.0 in
-    let f = rw at_r.r.given.1 at at_formula_at.formula-at.ensures.0 in
-    let g = rw e at at_seen_at.seen_at.ensures.0 in
-    rw (c.refused-rights.ensures ∙ ap refused_rights e) (passive_unseen a.text.now (meaning_by a.text.now a.places.now a.cursor.sorted a.meanings.now) a.cursor.at a.cursor.end a.out.now _ _ h _ _ _ _ _ f _ _ g, (tt, at_formula_at.formula-at.ensures.1.1.1))
+    let a = c.args in
+    let e = c.in_default-s.is in
+    let h = rw c.in-Found.is at c.sign_due-d.ensures.0 in
+    let f = rw c.in-Done.is at c.formula_at-r.ensures.0 in
+    let g = rw e at c.seen_at-s.ensures.0 in
+    rw (c.refused_rights.ensures ∙ ap refused_rights e) (passive_unseen a.text.now (meaning_by a.text.now a.places.now a.cursor.sorted a.meanings.now) a.cursor.at a.cursor.end a.out.now _ _ h _ _ _ _ _ f a.out.now _ g, (tt, c.formula_at-r.ensures.1.1.1))
 
-put_viewers_requires : tie.Need-put-viewers-requires
+put_viewers_requires : tie.Need-put_viewers-stop-requires
 put_viewers_requires c κs =
-    let at_s = c.before.before in
-    let at_seen_at = at_s.before.before in
-    let at_r = at_seen_at.before.before in
-    let at_formula_at = at_r.before.before.before.before in
-    let at_d = at_formula_at.before.before.before in
-    let at_sign_due = at_d.before.before in
-    let at_entry_lem = at_sign_due.before.before.before.before.before in
-    let p = at_entry_lem.requires in
-    let d = rw at_d.d.given.1 at at_sign_due.sign-due.ensures.1 in
-    let g = rw at_r.r.given.1 at at_formula_at.formula-at.ensures.1.0 in
-    let h = rw at_s.s.given.1 at at_seen_at.seen_at.ensures.1 in
+    let p = c.requires in
+    let d = rw c.in-Found.is at c.sign_due-d.ensures.1 in
+    let g = rw c.in-Done.is at c.formula_at-r.ensures.1.0 in
+    let h = rw c.in-Given.is at c.seen_at-s.ensures.1 in
     let l = p.0.1.1.0 in
     (omega (arith, p.0.0, p.0.1.0), h.2)
 
 enclose_requires : tie.Need-enclose-requires
 enclose_requires c κs =
-    let at_put_viewers = c.before.before.before in
-    let at_s = at_put_viewers.before.before.before in
-    let at_r = at_s.before.before.before.before in
-    let at_formula_at = at_r.before.before.before.before in
-    let at_sign_due = at_formula_at.before.before.before.before.before in
-    let at_entry_lem = at_sign_due.before.before.before.before.before in
-    let g = rw at_r.r.given.1 at at_formula_at.formula-at.ensures.1.0 in
+    let g = rw c.in-Done.is at c.formula_at-r.ensures.1.0 in
     let l =
-    ap length at_put_viewers.put-viewers.ensures.1
-    ∙ fitted_long _ _ (viewer_bytes at_s.s.given.0.1.0)
-    ∙ at_formula_at.formula-at.ensures.1.1.1 in
-    (omega (arith, at_put_viewers.put-viewers.ensures.0), omega (arith, l, at_entry_lem.requires.1))
+    ap length c.put_viewers-stop.ensures.1
+    ∙ fitted_long _ _ (viewer_bytes c.in-Given.bits)
+    ∙ c.formula_at-r.ensures.1.1.1 in
+    (omega (arith, c.put_viewers-stop.ensures.0), omega (arith, l, c.requires.1))
 
-returns_4 : tie.Need-returns-4
+returns_4 : tie.Need-returns
 returns_4 c =
-    let at_enclose = c.before.before in
-    let at_put_viewers = at_enclose.before.before.before.before in
-    let at_s = at_put_viewers.before.before.before in
-    let at_seen_at = at_s.before.before in
-    let at_r = at_seen_at.before.before in
-    let at_formula_at = at_r.before.before.before.before in
-    let at_d = at_formula_at.before.before.before in
-    let at_sign_due = at_d.before.before in
-    let at_entry_lem = at_sign_due.before.before.before.before.before in
-    let a = at_entry_lem.args in
-    let d = rw at_d.d.given.1 at at_sign_due.sign-due.ensures.0 in
-    let b = rw at_d.d.given.1 at at_sign_due.sign-due.ensures.1 in
-    let f = rw at_r.r.given.1 at at_formula_at.formula-at.ensures.0 in
-    let g = rw at_r.r.given.1 at at_formula_at.formula-at.ensures.1.0 in
-    let h = rw at_s.s.given.1 at at_seen_at.seen_at.ensures.0 in
-    let i = rw at_s.s.given.1 at at_seen_at.seen_at.ensures.1 in
-    let l = at_formula_at.formula-at.ensures.1.1.1 in
-    rw (at_enclose.enclose.ensures, at_put_viewers.put-viewers.ensures.1) (
-      passive_done a.text.now (meaning_by a.text.now a.places.now a.cursor.sorted a.meanings.now) a.cursor.at a.cursor.end a.out.now _ _ d _ _ _ _ _ f _ _ _ h l at_entry_lem.requires.1 at_put_viewers.put-viewers.ensures.0,
-      (omega (arith, viewer_few at_s.s.given.0.1.0, at_put_viewers.put-viewers.ensures.0), enclosed_long 2 _ _ _ ∙ fitted_long _ _ (viewer_bytes at_s.s.given.0.1.0) ∙ l),
+    let a = c.args in
+    let d = rw c.in-Found.is at c.sign_due-d.ensures.0 in
+    let b = rw c.in-Found.is at c.sign_due-d.ensures.1 in
+    let f = rw c.in-Done.is at c.formula_at-r.ensures.0 in
+    let g = rw c.in-Done.is at c.formula_at-r.ensures.1.0 in
+    let h = rw c.in-Given.is at c.seen_at-s.ensures.0 in
+    let i = rw c.in-Given.is at c.seen_at-s.ensures.1 in
+    let l = c.formula_at-r.ensures.1.1.1 in
+    rw (c.enclose.ensures, c.put_viewers-stop.ensures.1) (
+      passive_done a.text.now (meaning_by a.text.now a.places.now a.cursor.sorted a.meanings.now) a.cursor.at a.cursor.end a.out.now _ _ d _ _ _ _ _ f _ _ _ h l c.requires.1 c.put_viewers-stop.ensures.0,
+      (omega (arith, viewer_few c.in-Given.bits, c.put_viewers-stop.ensures.0), enclosed_long 2 _ _ _ ∙ fitted_long _ _ (viewer_bytes c.in-Given.bits) ∙ l),
     )
 
 pub passive_at_spec : {M : Type 1} → statement M

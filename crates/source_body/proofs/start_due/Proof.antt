@@ -4,32 +4,24 @@ use borrow.Author.Rules.{rules}
 use Rattle.source_body.proofs.start_due.Statement.{statement}
 use Rattle.source_body.proofs.start_due.Tie as tie
 
-returns : tie.Need-returns
+returns : tie.Need-returns-in_default
 returns c =
-    let at_sign_due = c.before.before in
-    let at_entry_lem = at_sign_due.before.before in
-    let a = at_entry_lem.args in
-    let e = c.enum_told.given.1 in
-    let h = rw e at at_sign_due.sign-due.ensures.0 in
+    let a = c.args in
+    let e = c.in_default.is in
+    let h = rw e at c.sign_due-d.ensures.0 in
     rw e (start_missing a.text.now a.at _ h, tt)
 
-value_at_requires : tie.Need-value-at-requires
+value_at_requires : tie.Need-value_at-requires
 value_at_requires c κs =
-    let at_d = c.before in
-    let at_sign_due = at_d.before.before in
-    let at_entry_lem = at_sign_due.before.before in
-    let g = rw at_d.d.given.1 at at_sign_due.sign-due.ensures.1 in
-    (at_entry_lem.requires.0, g.2)
+    let g = rw c.in-Found.is at c.sign_due-d.ensures.1 in
+    (c.requires.0, g.2)
 
-returns_2 : tie.Need-returns-2
+returns_2 : tie.Need-returns
 returns_2 c =
-    let at_d = c.before.before in
-    let at_sign_due = at_d.before.before in
-    let at_entry_lem = at_sign_due.before.before in
-    let a = at_entry_lem.args in
-    let h = rw at_d.d.given.1 at at_sign_due.sign-due.ensures.0 in
-    let g = rw at_d.d.given.1 at at_sign_due.sign-due.ensures.1 in
-    (start_found a.text.now a.at _ _ c.value_at_law.result h c.value_at_law.ensures.0, start_within _ _ _ _ c.value_at_law.result g.0 g.1 c.value_at_law.ensures.1)
+    let a = c.args in
+    let h = rw c.in-Found.is at c.sign_due-d.ensures.0 in
+    let g = rw c.in-Found.is at c.sign_due-d.ensures.1 in
+    (start_found a.text.now a.at _ _ c.value_at.result h c.value_at.ensures.0, start_within _ _ _ _ c.value_at.result g.0 g.1 c.value_at.ensures.1)
 
 pub start_due_spec : {M : Type 1} → statement M
 start_due_spec =
