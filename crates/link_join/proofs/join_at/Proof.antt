@@ -4,32 +4,22 @@ use Rattle.link_join.proofs.JoinLaws.{first_refused, second_refused, both_taken}
 use Rattle.link_join.proofs.join_at.Statement.{statement}
 use Rattle.link_join.proofs.join_at.Tie as tie
 
-returns : tie.Need-returns
+returns : tie.Need-returns-then-x-ne0
 returns c =
-    let at_entry_lem = c.before.before.before.before.before.before in
-    first_refused at_entry_lem.args.first.now at_entry_lem.args.second.now at_entry_lem.args.params.now
-    at_entry_lem.args.buffer.now _ 0 c.before.compile-number.ensures c.if1.true
+    first_refused c.args.first.now c.args.second.now c.args.params.now
+    c.args.buffer.now _ 0 c.compile_number-x.ensures c.if-x-ne0.true
 
-returns_2 : tie.Need-returns-2
+returns_2 : tie.Need-returns-then-y-ne0
 returns_2 c =
-    let at_if1 = c.before.before in
-    let at_number = at_if1.before in
-    let at_entry_lem = at_number.before.before.before.before.before in
-    second_refused at_entry_lem.args.first.now at_entry_lem.args.second.now at_entry_lem.args.params.now
-    at_entry_lem.args.buffer.now _ _ at_number.compile-number.ensures at_if1.if1.false
-    c.before.compile-number2.ensures c.if2.true
+    second_refused c.args.first.now c.args.second.now c.args.params.now
+    c.args.buffer.now _ _ c.compile_number-x.ensures c.if-x-ne0.false
+    c.compile_number-y.ensures c.if-y-ne0.true
 
-returns_3 : tie.Need-returns-3
+returns_3 : tie.Need-returns
 returns_3 c =
-    let at_pool_at = c.before.before in
-    let at_if2 = at_pool_at.before.before in
-    let at_number2 = at_if2.before in
-    let at_if1 = at_number2.before in
-    let at_number = at_if1.before in
-    let at_entry_lem = at_number.before.before.before.before.before in
-    both_taken at_entry_lem.args.first.now at_entry_lem.args.second.now at_entry_lem.args.params.now
-    at_entry_lem.args.buffer.now _ _ at_number.compile-number.ensures at_if1.if1.false
-    at_number2.compile-number2.ensures at_if2.if2.false _ at_pool_at.pool-at.ensures
+    both_taken c.args.first.now c.args.second.now c.args.params.now
+    c.args.buffer.now _ _ c.compile_number-x.ensures c.if-x-ne0.false
+    c.compile_number-y.ensures c.if-y-ne0.false _ c.pool_at.ensures
 
 pub join_at_spec : {M : Type 1} → statement M
 join_at_spec =

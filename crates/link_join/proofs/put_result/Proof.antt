@@ -15,4 +15,4 @@ put_result_spec =
     (λ c κs. search rules)
     (λ c. search rules)
     (λ c. search rules)
-    (λ c. copied c.before.before.before.before.before.before.before.args.v.now c.before.before.before.before.before.before.before.args.buffer.now c.before.before.copy.new.1.0 c.before.before.before.before.if1.false c.before.before.copy.ensures.1))
+    (λ c. copied c.before.before.before.before.before.before.before.args.v.now c.before.before.before.before.before.before.before.args.buffer.now c.before.before.copy.new.1.0 c.before.before.before.before.if-buffer-v.false c.before.before.copy.ensures.1))

@@ -4,20 +4,15 @@ use Rattle.link_join.proofs.JoinLaws.{not_taken, is_taken}
 use Rattle.link_join.proofs.result_at.Statement.{statement}
 use Rattle.link_join.proofs.result_at.Tie as tie
 
-returns : tie.Need-returns
+returns : tie.Need-returns-then-n-ne0
 returns c =
-    let at_entry_lem = c.before.before.before.before.before in
-    not_taken at_entry_lem.args.v.now at_entry_lem.args.params.now at_entry_lem.args.buffer.now _
-    c.before.compile-number.ensures c.if1.true
+    not_taken c.args.v.now c.args.params.now c.args.buffer.now _
+    c.compile_number-n.ensures c.if-n-ne0.true
 
-returns_2 : tie.Need-returns-2
+returns_2 : tie.Need-returns
 returns_2 c =
-    let at_put_result = c.before.before in
-    let at_if1 = at_put_result.before.before in
-    let at_number = at_if1.before in
-    let at_entry_lem = at_number.before.before.before.before in
-    is_taken at_entry_lem.args.v.now at_entry_lem.args.params.now at_entry_lem.args.buffer.now _
-    at_number.compile-number.ensures at_if1.if1.false _ at_put_result.put_result.ensures
+    is_taken c.args.v.now c.args.params.now c.args.buffer.now _
+    c.compile_number-n.ensures c.if-n-ne0.false _ c.put_result.ensures
 
 pub result_at_spec : {M : Type 1} → statement M
 result_at_spec =
