@@ -15,4 +15,4 @@ cone_of_spec =
     (λ c. search rules)
     (λ c. search rules)
     (λ c κs. search rules)
-    (λ c. cone_is _ _ _ _ _ _ (c.before.before.close-rows.ensures _ c.before.before.before.before.before.fill-all-names.ensures _ (omega arith)) c.insert.ensures))
+    (λ c. cone_is _ _ _ _ _ _ (c.close_rows.ensures _ c.fill_all_names.ensures _ (omega arith)) c.insert.ensures))

@@ -9,10 +9,10 @@ use Rattle.ask_meets.proofs.fill_all_names.Tie as tie
 abbrev stands : List ℕ → ℕ → ℕ → ℕ → ℕ → Type 0
 stands d ev n i v = Gathers n v (names_any d ev i)
 
-abbrev invariant-loop : tie.invariant-loop
+abbrev invariant-loop : tie.invariant-loop-i
 invariant-loop d ev n rows₀ i₀ rows i = Filled (stands d ev n) n rows₀ rows i
 
-abbrev decreases-loop : tie.decreases-loop
+abbrev decreases-loop : tie.decreases-loop-i
 decreases-loop d ev n rows₀ i₀ rows i = n - i
 
 pub fill_all_names_spec : {M : Type 1} → statement M
@@ -22,11 +22,11 @@ fill_all_names_spec =
     invariant-loop
     decreases-loop
     (λ c. fill_none _ _ _)
-    (λ c κs. let p = c.before.before.before.before.requires in (p.0, p.2, p.3, omega arith, p.4))
+    (λ c κs. let p = c.requires in (p.0, p.2, p.3, omega arith, p.4))
     (λ c. omega arith)
     (λ c. omega arith)
     (λ c. omega arith)
     (λ c. omega arith)
-    (λ c. fill_one c.before.before.loop.invariant (omega arith) (omega arith) (λ j b. c.names_of.ensures j (omega arith)))
-    (λ c. c.before.loop.invariant.long)
-    (λ c. fill_end c.before.loop.invariant (omega arith)))
+    (λ c. fill_one c.loop-i.invariant (omega arith) (omega arith) (λ j b. c.names_of.ensures j (omega arith)))
+    (λ c. c.loop-i.invariant.long)
+    (λ c. fill_end c.loop-i.invariant (omega arith)))

@@ -9,10 +9,10 @@ use Rattle.ask_meets.proofs.fill_strict.Tie as tie
 abbrev stands : List ℕ → List ℕ → ℕ → ℕ → ℕ → ℕ → Type 0
 stands d rows n cone e v = Gathers 64 v (strict_on d rows n cone e)
 
-abbrev invariant-loop : tie.invariant-loop
+abbrev invariant-loop : tie.invariant-loop-e
 invariant-loop d rows n cone ev strict₀ e₀ strict e = Filled (stands d rows n cone) ev strict₀ strict e
 
-abbrev decreases-loop : tie.decreases-loop
+abbrev decreases-loop : tie.decreases-loop-e
 decreases-loop d rows n cone ev strict₀ e₀ strict e = ev - e
 
 pub fill_strict_spec : {M : Type 1} → statement M
@@ -22,11 +22,11 @@ fill_strict_spec =
     invariant-loop
     decreases-loop
     (λ c. fill_none _ _ _)
-    (λ c κs. let p = c.before.before.before.before.before.requires in (p.0, p.1, p.2, omega arith, p.5 c.before.loop.e (omega arith)))
+    (λ c κs. let p = c.before.before.before.before.before.requires in (p.0, p.1, p.2, omega arith, p.5 c.before.loop-e.e (omega arith)))
     (λ c. omega arith)
     (λ c. omega arith)
     (λ c. omega arith)
     (λ c. omega arith)
-    (λ c. fill_one c.before.before.loop.invariant (omega arith) (omega arith) c.Strict-of.ensures)
-    (λ c. c.before.loop.invariant.long)
-    (λ c. fill_end c.before.loop.invariant (omega arith)))
+    (λ c. fill_one c.before.before.loop-e.invariant (omega arith) (omega arith) c.strict_of.ensures)
+    (λ c. c.before.loop-e.invariant.long)
+    (λ c. fill_end c.before.loop-e.invariant (omega arith)))

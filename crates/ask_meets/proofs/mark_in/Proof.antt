@@ -30,10 +30,10 @@ turn {d} {rows} {i} {start} {count} {s} {k} {x} {next} t h q e = record {
 end : {d rows : List ℕ} {i start count s k : ℕ} → Turn d rows i start count s k → count ≤ k → s ≡ marks_among (leads rows i) i (used_by d i) start count
 end {count = count} {k = k} t h = let q : k ≡ count = omega (arith, t.few) in rw q at t.done
 
-abbrev invariant-loop : tie.invariant-loop
+abbrev invariant-loop : tie.invariant-loop-k
 invariant-loop d rows i v start count s₀ k₀ s k = Turn d rows i start count s k
 
-abbrev decreases-loop : tie.decreases-loop
+abbrev decreases-loop : tie.decreases-loop-k
 decreases-loop d rows i v start count s₀ k₀ s k = count - k
 
 pub mark_in_spec : {M : Type 1} → statement M
@@ -51,5 +51,5 @@ mark_in_spec =
     (λ c κs. omega arith)
     (λ c. omega arith)
     (λ c. omega arith)
-    (λ c. turn c.before.before.before.before.loop.invariant (omega arith) c.before.moved-node.ensures c.mark-node.ensures)
-    (λ c. end c.before.loop.invariant (omega arith)))
+    (λ c. turn c.loop-k.invariant (omega arith) c.moved_node.ensures c.mark_node-s.ensures)
+    (λ c. end c.loop-k.invariant (omega arith)))

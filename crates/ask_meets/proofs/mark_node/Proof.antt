@@ -12,8 +12,8 @@ mark_node_spec =
     (tie.spec
     (λ c κs. search rules)
     (λ c κs. search rules)
-    (λ c. rw (c.push-mark.ensures, c.before.name-mark.ensures.0) (search code depth 12))
+    (λ c. rw (c.push_mark.ensures, c.name_mark.ensures.0) (search code depth 12))
     (λ c κs. search rules)
-    (λ c. rw c.apply-mark.ensures (search code depth 12))
+    (λ c. rw c.apply_mark.ensures (search code depth 12))
     (λ c κs. search rules)
-    (λ c. rw c.push-mark2.ensures (search code depth 12)))
+    (λ c. rw c.push_mark-2.ensures (search code depth 12)))

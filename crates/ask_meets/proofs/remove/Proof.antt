@@ -10,5 +10,5 @@ remove_spec =
     (tie.spec
     (λ c κs. search rules)
     (λ c. search rules)
-    (λ c i. removed _ _ i c.before.before.requires c.before.contains.ensures c.if1.true)
-    (λ c i. not_there _ _ i c.before.contains.ensures c.if1.false))
+    (λ c i. removed _ _ i c.requires c.contains.ensures c.if-contains.true)
+    (λ c i. not_there _ _ i c.contains.ensures c.if-contains.false))

@@ -12,4 +12,4 @@ strict_at_spec =
     (λ c κs. search rules)
     (λ c κs. search rules)
     (λ c κs. search rules)
-    (λ c. strict_is c.before.before.before.before.before.before.args.d.now c.before.before.before.before.before.before.args.rows.now _ _ _ _ _ _ _ (omega arith) c.before.before.before.names_in.ensures c.before.before.add-rows.ensures c.before.mark_in_law.ensures c.with-member.ensures))
+    (λ c. strict_is c.args.d.now c.args.rows.now _ _ _ _ _ _ _ (omega arith) c.names_in.ensures c.add_rows-names.ensures c.mark_in.ensures c.with_member.ensures))

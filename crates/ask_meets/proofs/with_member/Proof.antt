@@ -9,6 +9,6 @@ with_member_spec =
     tie.close
     (tie.spec
     (λ c κs. search rules)
-    (λ c j. put_in _ _ _ j _ c.before.if1.true (c.insert.ensures j))
+    (λ c j. put_in _ _ _ j _ c.if-there.true (c.insert.ensures j))
     (λ c κs. search rules)
-    (λ c j. put_out _ _ _ j _ c.before.if1.false (c.remove.ensures j)))
+    (λ c j. put_out _ _ _ j _ c.if-there.false (c.remove.ensures j)))
