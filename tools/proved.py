@@ -9,6 +9,8 @@ rt ci leaves each library that it proved in crates/NAME/out, and the program as 
 not take these; here they are taken where no file of the crates was touched since, else rt proves what changed. What rt
 says goes to standard error.
 """
+import functools
+import hashlib
 import os
 import subprocess
 import sys
@@ -18,6 +20,7 @@ from sources import read_crates
 PARTS = ("src", "specs", "proofs")
 
 
+@functools.lru_cache
 def kit():
     """The toolchain's folder."""
     guide = subprocess.run(["rt", "doc"], capture_output=True, text=True, check=True).stdout.strip()
@@ -33,6 +36,25 @@ def below(crate, crates):
     return found
 
 
+@functools.lru_cache
+def text_sum(crate):
+    """A sum of the texts of a crate, and of the toolchain."""
+    whole = hashlib.sha256(subprocess.run(["rt", "version"], capture_output=True, check=True).stdout)
+    for part in PARTS:
+        for place, folders, names in os.walk(f"crates/{crate}/{part}"):
+            folders.sort()
+            for name in sorted(names):
+                with open(os.path.join(place, name), "rb") as file:
+                    whole.update(repr((place, name, file.read())).encode())
+    return whole.hexdigest()
+
+
+def sum_of(crate, crates):
+    """A sum of all that the proof of a crate reads, as the files stood when it was first asked for."""
+    every = [text_sum(name) for name in [*below(crate, crates), crate]]
+    return hashlib.sha256(repr((every, crates[crate])).encode()).hexdigest()
+
+
 def rlib(name):
     return f"crates/{name}/out/rlib/{name}.rlib"
 
@@ -46,16 +68,20 @@ def touched(name):
     return max(times[1:], default=times[0])
 
 
-def left_by_ci(crate, crates, made=None):
-    """Whether rt ci left each library below a crate, and what it made of the crate, and no file was touched since."""
-    libraries = below(crate, crates)
+def with_below(names, crates):
+    """These crates and those below them, each after those that it stands on."""
+    return list(dict.fromkeys(n for name in names for n in [*below(name, crates), name]))
+
+
+def left_by_ci(libraries, sources, made=()):
+    """Whether rt ci left each of these libraries, and what else it made, and no file of the sources was touched since."""
     if not all(os.path.isdir(rlib(n)) and not os.path.exists(f"crates/{n}/out/rlib/stamp") for n in libraries):
         return False
-    built = [rlib(n) for n in libraries] + ([made] if made else [])
+    built = [*map(rlib, libraries), *made]
     if not all(map(os.path.exists, built)):
         return False
-    oldest = min(os.stat(path).st_mtime for path in built)
-    return max([os.stat("crates.txt").st_mtime, *map(touched, [*libraries, crate])]) < oldest
+    oldest = min((os.stat(path).st_mtime for path in built), default=0)
+    return max([os.stat("crates.txt").st_mtime, *map(touched, sources)]) < oldest
 
 
 def said(command, **how):
@@ -70,30 +96,50 @@ def said(command, **how):
     return last
 
 
-def words(name, needs, crates):
+def root_of(crate):
+    """The file that a crate begins with."""
+    return "src/main.rt" if os.path.exists(f"crates/{crate}/src/main.rt") else "src/lib.rt"
+
+
+def is_static(crate):
+    """Whether crates.txt has the crate as a static library."""
+    with open("crates.txt", encoding="utf8") as file:
+        return any(line.split("#")[0].split(":")[0].split() == [crate, "staticlib"] for line in file)
+
+
+def words(name, needs, crates, jobs=4):
     """rattle's words for a crate over the libraries that it needs, as rt has them."""
     home = kit()
     out = ["--crate-name", name, "--extern", f"std={home}/rlibs/std.rlib", "-L", f"dependency={home}/rlibs"]
     for need in needs:
         path = os.path.abspath(rlib(need)) if need in crates else f"{home}/rlibs/{need}.rlib"
         out += ["--extern", f"{need}={path}"]
-    every = dict.fromkeys(n for need in needs if need in crates for n in [*below(need, crates), need])
-    for other in every:
+    for other in with_below([need for need in needs if need in crates], crates):
         out += ["-L", f"dependency={os.path.dirname(os.path.abspath(rlib(other)))}"]
     out += ["--antt-project", f"{home}/rattle/logic/antt-project.json", "--logic-built", f"{home}/logic_built"]
-    return out + ["--jobs", str(min(4, os.cpu_count() or 1)), "--links", f"{name}="]
+    out += ["--jobs", str(min(jobs, os.cpu_count() or 1)), "--links", f"{name}="]
+    return out + (["--crate-type", "staticlib"] if is_static(name) else [])
+
+
+def build(names, crates):
+    """Has these libraries proved and built, with those below them."""
+    every = with_below(names, crates)
+    if not left_by_ci(every, every):
+        for name in names:
+            said(["rt", "lib"], cwd=f"crates/{name}")
 
 
 def libraries_of(crate, crates):
-    """Has the libraries below a crate proved and built."""
-    if not left_by_ci(crate, crates):
+    """Has the libraries below a crate proved and built, and the crate itself proved."""
+    libraries = below(crate, crates)
+    if not left_by_ci(libraries, [*libraries, crate]):
         said(["rt", "check"], cwd=f"crates/{crate}")
 
 
 def archive(crate, file, toolchain, crates):
     libraries_of(crate, crates)
-    command = [f"{kit()}/bin/rattle", "build", "src/lib.rt", *words(crate, crates[crate], crates)]
-    command += ["--crate-type", "staticlib", "--toolchain", os.path.abspath(toolchain), "--backend", "llvm"]
+    command = [f"{kit()}/bin/rattle", "build", root_of(crate), *words(crate, crates[crate], crates)]
+    command += ["--toolchain", os.path.abspath(toolchain), "--backend", "llvm"]
     verdict = said([*command, "-o", os.path.abspath(file)], cwd=f"crates/{crate}")
     if not verdict.startswith("logic=proved "):
         sys.exit(f"proved: rattle does not say that {crate} is proved: {verdict}")
@@ -101,10 +147,10 @@ def archive(crate, file, toolchain, crates):
 
 
 def program(crate, crates):
-    if not os.path.exists(f"crates/{crate}/src/main.rt"):
+    if root_of(crate) != "src/main.rt":
         return libraries_of(crate, crates)
-    made = f"crates/{crate}/out/{crate}"
-    if not left_by_ci(crate, crates, made):
+    made, libraries = f"crates/{crate}/out/{crate}", below(crate, crates)
+    if not left_by_ci(libraries, [*libraries, crate], [made]):
         with open(f"crates/{crate}/stdin", "rb") as stdin:
             run = subprocess.run(["rt", "run"], cwd=f"crates/{crate}", stdin=stdin, stdout=subprocess.PIPE, check=False)
         with open(f"crates/{crate}/stdout", "rb") as wanted:

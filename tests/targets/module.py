@@ -1,6 +1,6 @@
 #!/usr/bin/env python3
-"""module.py PROVED COMPILED CALL...: whether a module of LLVM that ./release compiles is the one that `rt staticlib`
-wrote, both as text. They may differ in the names of the exported calls, which have the prefix engine_ in the second, in
+"""module.py PROVED COMPILED CALL...: whether a module of LLVM that ./release compiles is the one that
+rattle lowered, both as text. They may differ in the names of the exported calls, which have the prefix engine_ in the second, in
 what is said of the processor, and in attributes that say how a function is compiled and nothing of what it does. The
 second may have .. for every :: in a name.
 The first other difference is printed, and the program ends with 1.

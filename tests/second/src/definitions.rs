@@ -110,7 +110,7 @@ fn arrival((n, e, who): Arrival) -> String {
 fn answer(a: Answer) -> String {
     match a {
         Answer::Refused(n) => format!("refused {n}"),
-        Answer::Taken => "takenIn".into(),
+        Answer::Taken => "told_taken_in".into(),
         Answer::Value(v) => format!("shows {}", word(v)),
         Answer::Idle => "idle".into(),
         Answer::Ran => "ran".into(),
@@ -168,7 +168,7 @@ impl Page {
     /// A name for the program of an accepted sheet.
     fn named(&mut self, s: &Sheet) -> String {
         self.programs.push(program(s));
-        format!("p-{}", self.programs.len() - 1)
+        format!("p_{}", self.programs.len() - 1)
     }
 
     /// What reading makes of bytes: the first fault, or a sheet that is written as the same bytes.
@@ -176,11 +176,11 @@ impl Page {
         let read = engine::read(s);
         self.number(
             "reading",
-            format!("faultIn (readSheet {})", bytes(s)),
+            format!("fault_in (read_sheet {})", bytes(s)),
             read.as_ref().map_or_else(|n| *n, |_| 0) as u64,
         );
         if read.is_ok() {
-            self.list("writing", format!("encode (sheetIn {})", bytes(s)), s.iter().map(|b| b.to_string()).collect());
+            self.list("writing", format!("encode (sheet_in {})", bytes(s)), s.iter().map(|b| b.to_string()).collect());
         }
     }
 
@@ -195,7 +195,7 @@ impl Page {
                 other.senders.push(None);
             }
         }
-        let left = format!("fill (get {}) (sheetIn {})", bytes(params), bytes(s));
+        let left = format!("fill (get {}) (sheet_in {})", bytes(params), bytes(s));
         self.add("programs", left, Value::Other(name.clone(), program(&other)));
         name
     }
@@ -207,7 +207,7 @@ impl Page {
         let shown = |b: &[i32]| b.iter().map(|v| word(*v).to_string()).collect::<Vec<_>>();
         self.list("boards", format!("fresh {p}"), shown(&sheet.fresh()));
         let counts: Vec<usize> = (0..sheet.ranks.len()).map(|e| sheet.count(e)).collect();
-        self.number("counts", format!("allInstructions {p}"), counts.iter().sum::<usize>() as u64);
+        self.number("counts", format!("all_instructions {p}"), counts.iter().sum::<usize>() as u64);
         self.number("counts", format!("longest {p}"), counts.iter().max().copied().unwrap_or(0) as u64);
         for (e, count) in counts.iter().enumerate().filter(|(_, count)| **count <= 150) {
             self.list("codes", format!("code {p} {e}"), sheet.code(e).iter().map(instr).collect());
@@ -239,14 +239,14 @@ impl Page {
         let mut a = [first, near(r), near(r)];
         a[arity(f)..].fill(0);
         let on = format!("{f} {} {} {}", word(a[0]), word(a[1]), word(a[2]));
-        self.number("functions", format!("result {on}"), word(engine::apply(f, &a)));
+        self.number("functions", format!("result_of {on}"), word(engine::apply(f, &a)));
         self.truth("marks", format!("over {on}"), engine::over(f, &a));
     }
 
     /// One sheet from two.
     fn pooled(&mut self, first: &[u8], second: &[u8], params: &[u8]) {
-        let of = |s: &[u8]| format!("(sheetIn {})", bytes(s));
-        let ranks = format!("sameRanks ({} .signals) ({} .signals)", of(first), of(second));
+        let of = |s: &[u8]| format!("(sheet_in {})", bytes(s));
+        let ranks = format!("same_ranks {}.signals {}.signals", of(first), of(second));
         match pool::pooled(first, second, params, 8192) {
             Ok(v) => {
                 self.truth("joins", ranks, true);
@@ -362,7 +362,7 @@ impl Turns {
     /// The history by sheets, with these commits under the last.
     fn history(&self, commits: &[String]) -> String {
         self.changes.iter().rev().fold(format!("last {}", list(commits.iter().cloned())), |rest, (before, name)| {
-            format!("thenChange {} {name} ({rest})", list(before.iter().cloned()))
+            format!("then_change {} {name} ({rest})", list(before.iter().cloned()))
         })
     }
 
@@ -383,7 +383,7 @@ impl Turns {
         match self.model.change(sheet) {
             0 => {
                 self.changes.push((std::mem::take(&mut self.commits), name.into()));
-                self.replies.push("carriedOver".into());
+                self.replies.push("carried_over".into());
             }
             n => self.replies.push(says(Answer::Refused(n))),
         }
@@ -424,7 +424,7 @@ impl Page {
                 if let Some(next) = engine::compile(&next_bytes, &params).ok().filter(|s| small(&next_bytes, s)) {
                     let name = self.named(&next);
                     list.change(&name, &next);
-                    if list.replies.last().is_some_and(|reply| reply == "carriedOver") {
+                    if list.replies.last().is_some_and(|reply| reply == "carried_over") {
                         force = name;
                     }
                 }
@@ -440,18 +440,18 @@ impl Page {
         let history = Value::Other(list.history(&list.commits), list.history(&more));
         let turns = self::list(list.turns);
         let model = list.model;
-        let engine = format!("(engineAfter {p} {turns})");
+        let engine = format!("(engine_after {p} {turns})");
         self.list("replies", format!("replies {turns} (begun {p})"), list.replies);
-        self.add("histories", format!("historyOf {p} {turns}"), history);
-        self.list("taken in", format!("takenInBy {p} {turns}"), list.taken);
+        self.add("histories", format!("history_of {p} {turns}"), history);
+        self.list("taken in", format!("taken_in_by {p} {turns}"), list.taken);
         let mut other = model.clone();
         other.taken += 1;
         let value = Value::Other(engine_but_hand(&model), engine_but_hand(&other));
-        self.add("engines", format!("butHand {engine}"), value);
-        self.number("steps", format!("length (inQueue {engine})"), model.in_hand() as u64);
+        self.add("engines", format!("but_hand {engine}"), value);
+        self.number("steps", format!("length (in_queue {engine})"), model.in_hand() as u64);
         self.number("steps", format!("forecast {force} {engine}"), model.forecast() as u64);
         let longest = model.code.iter().map(Vec::len).max().unwrap_or(0);
-        self.number("steps", format!("countIn {force} {engine}"), ((model.in_hand() + 1) * (longest + 1)) as u64);
+        self.number("steps", format!("count_in {force} {engine}"), ((model.in_hand() + 1) * (longest + 1)) as u64);
         self.foreseen(r, force, &engine, &model);
     }
 
@@ -537,10 +537,10 @@ fn kinds(lemmas: &[Lemma]) -> Vec<&'static str> {
 fn text(page: &Page, head: &str, unfolding: &str) -> String {
     let mut out = head.to_string();
     for (k, p) in page.programs.iter().enumerate() {
-        writeln!(out, "\nabbrev p-{k} : Program\np-{k} = {p}").unwrap();
+        writeln!(out, "\nabbrev p_{k} : Program\np_{k} = {p}").unwrap();
     }
     for (k, l) in page.lemmas.iter().enumerate() {
-        let name = format!("{}-{k}", l.kind.replace(' ', "-"));
+        let name = format!("{}_{k}", l.kind.replace(' ', "_"));
         writeln!(out, "\npub {name} : {} ≡ {}\nunfolding {unfolding}\n{name} = refl", l.left, l.right.text()).unwrap();
     }
     out
