@@ -5,69 +5,54 @@ use Rattle.source_describe.proofs.Turns.{Describing, describing_on, describing_s
 use Rattle.source_describe.proofs.put_entries.Statement.{statement}
 use Rattle.source_describe.proofs.put_entries.Tie as tie
 
-abbrev invariant-loop : tie.invariant-loop
+abbrev invariant-loop : tie.invariant-loop-left
 invariant-loop s first heads out₀ at₀ j₀ left₀ after₀ out at j left after = Describing s first out₀ out after₀ after at j left
 
-abbrev decreases-loop : tie.decreases-loop
+abbrev decreases-loop : tie.decreases-loop-left
 decreases-loop s first heads out₀ at₀ j₀ left₀ after₀ out at j left after = left
 
-returns : tie.Need-returns invariant-loop decreases-loop
+returns : tie.Need-returns-then-at-s invariant-loop decreases-loop
 returns c =
-    let at_loop = c.before.before in
-    describing_stops at_loop.loop.invariant c.before.loop-test.true c.if1.true
+    describing_stops c.loop-left.invariant c.loop-left-test.true c.if-at-s.true
 
-returns_2 : tie.Need-returns-2 invariant-loop decreases-loop
+returns_2 : tie.Need-returns-then-j-gt-LAST_BEHAVIOUR invariant-loop decreases-loop
 returns_2 c =
-    let at_if1 = c.before in
-    let at_loop_test = at_if1.before in
-    let at_loop = at_loop_test.before in
-    describing_full at_loop.loop.invariant at_loop_test.loop-test.true at_if1.if1.false c.if2.true
+    describing_full c.loop-left.invariant c.loop-left-test.true c.if-at-s.false c.if-j-gt-LAST_BEHAVIOUR.true
 
-returns_3 : tie.Need-returns-3 invariant-loop decreases-loop
+returns_3 : tie.Need-returns invariant-loop decreases-loop
 returns_3 c =
-    let at_loop = c.before in
-    under_end at_loop.loop.invariant.underway (entries_none _ _ _ _ _ c.loop-test.false)
+    under_end c.loop-left.invariant.underway (entries_none _ _ _ _ _ c.loop-left-test.false)
 
-loop_holds : tie.Need-loop-init invariant-loop decreases-loop
+loop_holds : tie.Need-loop-left-init invariant-loop decreases-loop
 loop_holds c =
-    let at_entry_lem = c.before.before in
-    record { underway = under_start _ at_entry_lem.args.pen _ at_entry_lem.requires.1; inside = at_entry_lem.requires.0.0; few = omega arith }
+    record { underway = under_start _ c.args.pen _ c.requires.1; inside = c.requires.0.0; few = omega arith }
 
-same_length : tie.Need-same-length invariant-loop decreases-loop
-same_length c = c.before.before.loop.invariant.underway.so_far.as_long
+same_length : tie.Need-shape_of-out-then-at-s invariant-loop decreases-loop
+same_length c = c.loop-left.invariant.underway.so_far.as_long
 
-same_length_2 : tie.Need-same-length-2 invariant-loop decreases-loop
-same_length_2 c = c.before.before.before.loop.invariant.underway.so_far.as_long
+same_length_2 : tie.Need-shape_of-out-then-j-gt-LAST_BEHAVIOUR invariant-loop decreases-loop
+same_length_2 c = c.loop-left.invariant.underway.so_far.as_long
 
-put_entry_requires : tie.Need-put-entry-requires invariant-loop decreases-loop
+put_entry_requires : tie.Need-put_entry-after-requires invariant-loop decreases-loop
 put_entry_requires c κs =
-    let at_if2 = c.before in
-    let at_loop = at_if2.before.before.before in
-    let at_entry_lem = at_loop.before.before.before in
-    ((at_entry_lem.requires.0.0, at_loop.loop.invariant.inside, omega (arith, at_if2.if2.false), at_entry_lem.requires.0.1), at_loop.loop.invariant.underway.so_far.stops)
+    ((c.requires.0.0, c.loop-left.invariant.inside, omega (arith, c.if-j-gt-LAST_BEHAVIOUR.false), c.requires.0.1), c.loop-left.invariant.underway.so_far.stops)
 
-cells_at_requires : tie.Need-cells-at-requires invariant-loop decreases-loop
-cells_at_requires c κs = c.before.before.before.before.before.before.before.loop.invariant.inside
+cells_at_requires : tie.Need-cells_at-j-requires invariant-loop decreases-loop
+cells_at_requires c κs = c.loop-left.invariant.inside
 
-add_j : tie.Need-overflow-add-j invariant-loop decreases-loop
-add_j c = omega (arith, c.cells_at.ensures.1)
+add_j : tie.Need-overflow_add-j invariant-loop decreases-loop
+add_j c = omega (arith, c.cells_at-j.ensures.1)
 
-after_field_requires : tie.Need-after-field-requires invariant-loop decreases-loop
-after_field_requires c κs = c.before.before.before.before.before.before.before.before.loop.invariant.inside
+after_field_requires : tie.Need-after_field-at-requires invariant-loop decreases-loop
+after_field_requires c κs = c.loop-left.invariant.inside
 
-loop_again : tie.Need-loop-preserved invariant-loop decreases-loop
+loop_again : tie.Need-loop-left-preserved invariant-loop decreases-loop
 loop_again c =
-    let at_cells_at = c.before in
-    let at_put_entry = at_cells_at.before.before.before in
-    let at_if2 = at_put_entry.before.before in
-    let at_if1 = at_if2.before in
-    let at_loop_test = at_if1.before in
-    let at_loop = at_loop_test.before in
-    describing_on at_loop.loop.invariant at_loop_test.loop-test.true at_if1.if1.false at_if2.if2.false at_put_entry.put-entry.ensures
-    at_cells_at.cells_at.ensures.0 at_cells_at.cells_at.ensures.1 c.after_field_law.ensures.0 c.after_field_law.ensures.1
+    describing_on c.loop-left.invariant c.loop-left-test.true c.if-at-s.false c.if-j-gt-LAST_BEHAVIOUR.false c.put_entry-after.ensures
+    c.cells_at-j.ensures.0 c.cells_at-j.ensures.1 c.after_field-at.ensures.0 c.after_field-at.ensures.1
 
-same_length_3 : tie.Need-same-length-3 invariant-loop decreases-loop
-same_length_3 c = c.before.loop.invariant.underway.so_far.as_long
+same_length_3 : tie.Need-shape_of-out invariant-loop decreases-loop
+same_length_3 c = c.loop-left.invariant.underway.so_far.as_long
 
 pub put_entries_spec : {M : Type 1} → statement M
 put_entries_spec =

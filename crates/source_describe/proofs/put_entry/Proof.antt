@@ -3,39 +3,25 @@ use Rattle.lib_base.proofs.Prelude.{ne_eqb, eq-eqb, rules}
 use Rattle.source_describe.proofs.put_entry.Statement.{statement}
 use Rattle.source_describe.proofs.put_entry.Tie as tie
 
-returns : tie.Need-returns
+returns : tie.Need-returns-then-tag-eq-PASSIVE
 returns c =
-    let at_put_passive = c.before.before in
-    let at_if1 = at_put_passive.before.before in
-    let at_Onward = at_if1.before in
-    let at_byte_from = at_Onward.before in
-    rw (← at_byte_from.byte-from.ensures, eq-eqb _ 2 at_if1.if1.true, ← at_Onward.onward.ensures.0) at_put_passive.put-passive.ensures
+    rw (← c.byte_from-tag.ensures, eq-eqb _ 2 c.if-tag-eq-PASSIVE.true, ← c.onward-value.ensures.0) c.put_passive.ensures
 
-returns_2 : tie.Need-returns-2
+returns_2 : tie.Need-returns-then-tag-eq-ROW
 returns_2 c =
-    let at_put_row = c.before.before in
-    let at_if2 = at_put_row.before.before in
-    let at_if1 = at_if2.before in
-    let at_Onward = at_if1.before in
-    let at_byte_from = at_Onward.before in
-    rw (← at_byte_from.byte-from.ensures, ne_eqb _ 2 at_if1.if1.false, eq-eqb _ 6 at_if2.if2.true, ← at_Onward.onward.ensures.0) at_put_row.put-row.ensures
+    rw (← c.byte_from-tag.ensures, ne_eqb _ 2 c.if-tag-eq-PASSIVE.false, eq-eqb _ 6 c.if-tag-eq-ROW.true, ← c.onward-value.ensures.0) c.put_row.ensures
 
-returns_3 : tie.Need-returns-3
+returns_3 : tie.Need-returns
 returns_3 c =
-    let at_put_state = c.before.before in
-    let at_if2 = at_put_state.before.before in
-    let at_if1 = at_if2.before in
-    let at_Onward = at_if1.before in
-    let at_byte_from = at_Onward.before in
-    rw (← at_byte_from.byte-from.ensures, ne_eqb _ 2 at_if1.if1.false, ne_eqb _ 6 at_if2.if2.false, ← at_Onward.onward.ensures.0) at_put_state.put-state.ensures
+    rw (← c.byte_from-tag.ensures, ne_eqb _ 2 c.if-tag-eq-PASSIVE.false, ne_eqb _ 6 c.if-tag-eq-ROW.false, ← c.onward-value.ensures.0) c.put_state.ensures
 
-same_length : tie.Need-same-length
+same_length : tie.Need-shape_of-out-then-tag-eq-PASSIVE
 same_length c = (returns c).as_long
 
-same_length_2 : tie.Need-same-length-2
+same_length_2 : tie.Need-shape_of-out-then-tag-eq-ROW
 same_length_2 c = (returns_2 c).as_long
 
-same_length_3 : tie.Need-same-length-3
+same_length_3 : tie.Need-shape_of-out
 same_length_3 c = (returns_3 c).as_long
 
 pub put_entry_spec : {M : Type 1} → statement M

@@ -6,16 +6,10 @@ use Rattle.source_describe.proofs.put_passive.Tie as tie
 
 returns : tie.Need-returns
 returns c =
-    let at_put_viewers = c.before.before in
-    let at_put_term = at_put_viewers.before.before.before.before in
-    let at_put_sign2 = at_put_term.before.before.before.before in
-    let at_put_name = at_put_sign2.before.before.before.before in
-    let at_put_sign = at_put_name.before.before.before.before in
-    let at_after_field = at_put_sign.before.before in
-    rw (← at_after_field.after_field_law.ensures.0)
-    (wrote_on at_put_sign.write-sign.ensures (wrote_on at_put_name.write-name.ensures (wrote_on at_put_sign2.write-sign2.ensures (wrote_on at_put_term.put-term.ensures at_put_viewers.write-viewers.ensures))))
+    rw (← c.after_field-viewers.ensures.0)
+    (wrote_on c.write_sign-word.ensures (wrote_on c.write_name-named.ensures (wrote_on c.write_sign-equals.ensures (wrote_on c.put_term-defined.ensures c.write_viewers.ensures))))
 
-same_length : tie.Need-same-length
+same_length : tie.Need-shape_of-out
 same_length c = (returns c).as_long
 
 pub put_passive_spec : {M : Type 1} → statement M

@@ -5,18 +5,13 @@ use borrow.Author.Rules.{rules}
 use Rattle.source_describe.proofs.put_phase.Statement.{statement}
 use Rattle.source_describe.proofs.put_phase.Tie as tie
 
-returns : tie.Need-returns
+returns : tie.Need-returns-then-b-eq0
 returns c =
-    let at_put_sign = c.before.before in
-    let at_if1 = at_put_sign.before.before in
-    rw at_if1.if1.true at_put_sign.write-sign.ensures
+    rw c.if-b-eq0.true c.write_sign.ensures
 
-returns_2 : tie.Need-returns-2
+returns_2 : tie.Need-returns
 returns_2 c =
-    let at_put_sign3 = c.before.before in
-    let at_put_sign2 = at_put_sign3.before.before.before.before in
-    let at_if1 = at_put_sign2.before.before in
-    rw (phase_later _ at_if1.if1.false) (wrote_on at_put_sign2.write-sign2.ensures at_put_sign3.write-sign3.ensures)
+    rw (phase_later _ c.if-b-eq0.false) (wrote_on c.write_sign-after.ensures c.write_sign-2.ensures)
 
 pub put_phase_spec : {M : Type 1} → statement M
 put_phase_spec =

@@ -6,24 +6,14 @@ use Rattle.source_describe.proofs.put_signal.Tie as tie
 
 returns : tie.Need-returns
 returns c =
-    let at_put_senders = c.before.before in
-    let at_put_number = at_put_senders.before.before.before.before in
-    let at_put_sign2 = at_put_number.before.before.before.before in
-    let at_put_name = at_put_sign2.before.before.before.before in
-    let at_put_sign = at_put_name.before.before.before.before in
-    let at_byte_from = at_put_sign.before.before in
-    rw (← at_byte_from.byte-from.ensures)
-    (wrote_on at_put_sign.write-sign.ensures (wrote_on at_put_name.write-name.ensures (wrote_on at_put_sign2.write-sign2.ensures (wrote_on at_put_number.write-number.ensures at_put_senders.put-senders.ensures))))
+    rw (← c.byte_from-rank.ensures)
+    (wrote_on c.write_sign-word.ensures (wrote_on c.write_name-named.ensures (wrote_on c.write_sign-ranked.ensures (wrote_on c.write_number-counted.ensures c.put_senders.ensures))))
 
-put_senders_requires : tie.Need-put-senders-requires
+put_senders_requires : tie.Need-put_senders-requires
 put_senders_requires c κs =
-    let at_put_number = c.before.before.before in
-    let at_put_name = at_put_number.before.before.before.before.before.before.before.before in
-    let at_byte_from = at_put_name.before.before.before.before.before.before in
-    let at_entry_lem = at_byte_from.before.before.before in
-    (at_entry_lem.requires.0.0, at_put_number.write-number.ensures.stops)
+    (c.requires.0.0, c.write_number-counted.ensures.stops)
 
-same_length : tie.Need-same-length
+same_length : tie.Need-shape_of-out
 same_length c = (returns c).as_long
 
 pub put_signal_spec : {M : Type 1} → statement M

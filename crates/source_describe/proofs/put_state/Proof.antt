@@ -6,13 +6,9 @@ use Rattle.source_describe.proofs.put_state.Tie as tie
 
 returns : tie.Need-returns
 returns c =
-    let at_put_active = c.before.before in
-    let at_put_sign2 = at_put_active.before.before.before.before in
-    let at_put_name = at_put_sign2.before.before.before.before in
-    let at_put_sign = at_put_name.before.before.before.before in
-    (wrote_on at_put_sign.write-sign.ensures (wrote_on at_put_name.write-name.ensures (wrote_on at_put_sign2.write-sign2.ensures at_put_active.put-active.ensures)))
+    (wrote_on c.write_sign-word.ensures (wrote_on c.write_name-named.ensures (wrote_on c.write_sign-equals.ensures c.put_active.ensures)))
 
-same_length : tie.Need-same-length
+same_length : tie.Need-shape_of-out
 same_length c = (returns c).as_long
 
 pub put_state_spec : {M : Type 1} → statement M

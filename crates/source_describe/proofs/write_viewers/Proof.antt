@@ -5,26 +5,18 @@ use Rattle.source_describe.proofs.Turns.{viewers_there}
 use Rattle.source_describe.proofs.write_viewers.Statement.{statement}
 use Rattle.source_describe.proofs.write_viewers.Tie as tie
 
-returns : tie.Need-returns
+returns : tie.Need-returns-then-byte_from-ne-VIEWERS
 returns c =
-    let at_byte_from = c.before in
-    let at_entry_lem = at_byte_from.before.before.before in
-    rw (← at_byte_from.byte-from.ensures, ne_eqb _ 8 c.if1.true) (wrote_none _ _ at_entry_lem.requires.1)
+    rw (← c.byte_from.ensures, ne_eqb _ 8 c.if-byte_from-ne-VIEWERS.true) (wrote_none _ _ c.requires.1)
 
-returns_2 : tie.Need-returns-2
+returns_2 : tie.Need-returns
 returns_2 c =
-    let at_put_rights = c.before.before in
-    let at_put_sign2 = at_put_rights.before.before.before.before in
-    let at_put_sign = at_put_sign2.before.before.before.before in
-    let at_byte_from2 = at_put_sign.before.before in
-    let at_if1 = at_byte_from2.before in
-    let at_byte_from = at_if1.before in
-    let args = at_byte_from.before.before.before.args in
+    let args = c.args in
     wrote_as
-    (wrote_on at_put_sign.write-sign.ensures (wrote_on at_put_sign2.write-sign2.ensures at_put_rights.put-rights.ensures))
-    (viewers_there (drop args.at args.s.now) at_byte_from.byte-from.ensures at_if1.if1.false at_byte_from2.byte-from2.ensures)
+    (wrote_on c.write_sign-seen.ensures (wrote_on c.write_sign-by.ensures c.put_rights.ensures))
+    (viewers_there (drop args.at args.s.now) c.byte_from.ensures c.if-byte_from-ne-VIEWERS.false c.byte_from-m.ensures)
 
-same_length : tie.Need-same-length
+same_length : tie.Need-shape_of-out
 same_length c = (returns_2 c).as_long
 
 pub write_viewers_spec : {M : Type 1} → statement M
