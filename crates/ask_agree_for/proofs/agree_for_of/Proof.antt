@@ -8,6 +8,6 @@ pub agree_for_of_spec : {M : Type 1} → statement M
 agree_for_of_spec =
     tie.close
     (tie.spec
-    (λ c. no_behaviour_law c.before.before.args.d.now _ _ _ c.if1.true)
+    (λ c. no_behaviour_law c.args.d.now _ _ _ c.if-n-behaviour.true)
     (λ c κs. search rules)
-    (λ c. behaviour_is c.before.before.before.args.d.now _ _ _ _ c.before.if1.false c.meet-in.ensures))
+    (λ c. behaviour_is c.args.d.now _ _ _ _ c.if-n-behaviour.false c.meet_in.ensures))

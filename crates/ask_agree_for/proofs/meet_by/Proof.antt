@@ -8,10 +8,10 @@ use Rattle.ask_agree_for.proofs.meet_by.Tie as tie
 abbrev answer : List ℕ → List ℕ → List ℕ → ℕ → ℕ → ℕ → ℕ → ℕ
 answer d writes strict cone n ev = encounter_from (priority_on d) n (met_by cone writes strict) ev
 
-abbrev invariant-loop : tie.invariant-loop
+abbrev invariant-loop : tie.invariant-loop-e
 invariant-loop d writes strict cone n ev e₀ e = Seeking (answer d writes strict cone n ev) 0 ev e
 
-abbrev decreases-loop : tie.decreases-loop
+abbrev decreases-loop : tie.decreases-loop-e
 decreases-loop d writes strict cone n ev e₀ e = ev - e
 
 pub meet_by_spec : {M : Type 1} → statement M
@@ -23,8 +23,8 @@ meet_by_spec =
     decreases-loop
     (λ c. seek _ _ _ (omega arith))
     (λ c κs. omega arith)
-    (λ c. c.before.meet-from.ensures ∙ seek_stop c.before.before.before.loop.invariant (omega arith) (λ z. c.if1.true (c.before.meet-from.ensures ∙ z)))
+    (λ c. c.meet_from-a.ensures ∙ seek_stop c.loop-e.invariant (omega arith) (λ z. c.if-a-ne0.true (c.meet_from-a.ensures ∙ z)))
     (λ c. omega arith)
     (λ c. omega arith)
-    (λ c. seek_on c.before.before.before.loop.invariant (omega arith) (sym c.before.meet-from.ensures ∙ c.if1.false))
-    (λ c. seek_end c.before.loop.invariant (omega arith)))
+    (λ c. seek_on c.loop-e.invariant (omega arith) (sym c.meet_from-a.ensures ∙ c.if-a-ne0.false))
+    (λ c. seek_end c.loop-e.invariant (omega arith)))

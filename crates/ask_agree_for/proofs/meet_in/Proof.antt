@@ -6,13 +6,9 @@ use Rattle.ask_agree_for.proofs.meet_in.Tie as tie
 
 returns : tie.Need-returns
 returns c =
-    let at_strict = c.before.before.before.before in
-    let at_writes = at_strict.before.before.before.before in
-    let at_rows = at_writes.before.before.before in
-    let at_cone = at_rows.before.before in
-    encounter_is _ _ _ _ _ _ at_rows.passive-rows.new.1.1.1.0 at_writes.fill-writes.new.1.1.1.0 at_strict.fill-strict.new.1.1.1.1.1.0
-    at_cone.before.before.requires.3 at_cone.cone-of.ensures at_rows.passive-rows.ensures at_writes.fill-writes.ensures
-    at_strict.fill-strict.ensures c.meet-by.ensures
+    encounter_is _ _ _ _ _ _ c.passive_rows.new.rows c.fill_writes.new.writes c.fill_strict.new.strict
+    c.requires.3 c.cone_of-cone.ensures c.passive_rows.ensures c.fill_writes.ensures
+    c.fill_strict.ensures c.meet_by.ensures
 
 pub meet_in_spec : {M : Type 1} → statement M
 meet_in_spec =
@@ -20,7 +16,7 @@ meet_in_spec =
     (tie.spec
     (λ c κs. search rules)
     (λ c. search rules)
-    (λ c κs. let p = c.before.before.before.requires in (p.0, refl, p.1, p.2, p.4 _ (omega arith)))
+    (λ c κs. let p = c.requires in (p.0, refl, p.1, p.2, p.4 _ (omega arith)))
     (λ c. search rules)
     (λ c κs. search rules)
     (λ c. search rules)

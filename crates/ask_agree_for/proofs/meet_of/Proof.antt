@@ -13,4 +13,4 @@ meet_of_spec =
     (λ c κs. search rules)
     (λ c κs. search rules)
     (λ c κs. search rules)
-    (λ c i. rw (c.common3.ensures i, c.before.union-of.ensures i, c.before.before.common2.ensures i, c.before.before.before.common.ensures i)))
+    (λ c i. rw (c.common-3.ensures i, c.union_of.ensures i, c.common-2.ensures i, c.common.ensures i)))
