@@ -16,7 +16,6 @@ use Rattle.source_coding.specs.Places.{tokens_from, name_at, names_held}
 use Rattle.source_declarations.specs.Declarations.{name_of_event}
 use Rattle.source_declarations.proofs.Many.{many_faults, many_over}
 use Rattle.source_declarations.proofs.Held.{held_more, named_more}
-use Rattle.source_handlers.specs.declared.Part.TheVariants as P
 use Rattle.source_handlers.proofs.Gather.{after_more, Gathered, gather_start, gather_turn}
 use Rattle.source_behaviours.specs.declared.Behaviour.TheVariants as B
 use Rattle.source_behaviours.specs.declared.Behaviours.TheVariants.{Done, Fault}

@@ -1,5 +1,5 @@
 -- A whole text, stage by stage: parameters, events, behaviours, and its end: the answers of `read_at`.
-use Rattle.lib_base.proofs.Prelude.{ℕ, ◌≤◌, ◌+◌, ◌-◌, ◌≡◌, refl, ◌∙◌, ap, List, [], ◌∷◌, ◌++◌, map, length, take}
+use Rattle.lib_base.proofs.Prelude.{ℕ, ◌≤◌, ◌+◌, ◌≡◌, refl, ◌∙◌, ap, List, [], ◌∷◌, ◌++◌, map, length, take}
 use Rattle.lib_base.proofs.Prelude.{length-take-le, eqb, arith}
 use Rattle.lib_base.specs.Basics.{All}
 use Rattle.lib_base.proofs.Tools.{split}

@@ -3,8 +3,8 @@ use borrow.Author.Rules.{rules}
 use Rattle.source_behaviours.proofs.refused_part.Statement.{statement}
 use Rattle.source_behaviours.proofs.refused_part.Tie as tie
 
-returns : tie.Need-returns
-returns c = rw c.before.part.given.1
+returns : tie.Need-returns-in-Fault
+returns c = rw c.in-Fault.is
 
 pub refused_part_spec : {M : Type 1} → statement M
 refused_part_spec = tie.close (tie.spec (λ c. search rules) (λ c. search rules) returns (λ c. search rules))
