@@ -1,7 +1,7 @@
 -- What compile's 0 says of both sheets: the bytes spliced are those of the sheet pooled from the two that were read.
 -- Each answer from the facts that lead to it.
 use Rattle.lib_base.proofs.Prelude.{ℕ, ◌≤◌, ◌<◌, ◌+◌, ◌-◌, ◌≡◌, ◌∙◌, sym, ap, true, false, Bool, not, List, [], ◌++◌}
-use Rattle.lib_base.proofs.Prelude.{length, take, drop, replicate, length-replicate, take-length, ne_eqb, le-ltb}
+use Rattle.lib_base.proofs.Prelude.{length, take, drop, replicate, length-replicate, ne_eqb, le-ltb}
 use Rattle.lib_base.proofs.Prelude.{eq-eqb, not-true, not-false, arith}
 use Rattle.lib_base.specs.Basics.{All}
 use Rattle.lib_word.specs.Word.{get}
@@ -66,9 +66,9 @@ module _ {s t ps : List ℕ} (x : AcceptedSheet s ps) (y : AcceptedSheet t ps) w
 
 -- ---- the branches
 
-pub copied : (v buffer p : List ℕ) → length v ≤ length buffer → p ≡ take (length v) v ++ drop (length v) buffer → joined (4294967296 + length v) p ≡ delivered_in v buffer
+pub copied : (v buffer p : List ℕ) → length v ≤ length buffer → p ≡ v ++ drop (length v) buffer → joined (4294967296 + length v) p ≡ delivered_in v buffer
 unfolding delivered_in
-copied v buffer p h q = rw (le-ltb (length buffer) (length v) h, q, take-length v)
+copied v buffer p h q = rw (le-ltb (length buffer) (length v) h, q)
 
 module _ (v ps buffer : List ℕ) (n : ℕ) (q : n ≡ number_on v ps) where
   pub not_taken : (n ≡ 0 → ⊥) → joined n buffer ≡ result_on v ps buffer

@@ -1,5 +1,5 @@
 -- Both sheets are read (`taken`): the ranks differ, or the bytes spliced are the pooled sheet's.
-use Rattle.lib_base.proofs.Prelude.{length-drop, length-take, rules, arith}
+use Rattle.lib_base.proofs.Prelude.{ap, not, length-drop, length-take, rules, arith}
 use Rattle.back_compile.proofs.ReadIs.{all_bytes}
 use Rattle.link_join.proofs.JoinLaws.{taken, read_few, unlike, alike}
 use Rattle.link_join.proofs.pool_at.Statement.{statement}
@@ -13,7 +13,7 @@ returns c =
     (taken c.args.second.now c.args.params.now
     (all_bytes c.args.second.now
     (λ i _. omega (arith, c.shared_slice_known-2-1.given i))) c.requires.1) _ _
-    c.ranks_agree.ensures c.if-not-ranks_agree.true
+    c.ranks_agree.ensures (ap not c.if-not-ranks_agree.true)
 
 splice_requires : tie.Need-splice-n-requires
 splice_requires c κs =
@@ -47,7 +47,7 @@ returns_2 c =
     (taken c.args.second.now c.args.params.now
     (all_bytes c.args.second.now
     (λ i _. omega (arith, c.shared_slice_known-2-1.given i))) c.requires.1) _ _ _ _ _ _
-    c.ranks_agree.ensures c.if-not-ranks_agree.false c.splice-n.ensures.0
+    c.ranks_agree.ensures (ap not c.if-not-ranks_agree.false) c.splice-n.ensures.0
     c.result_at.ensures
 
 pub pool_at_spec : {M : Type 1} → statement M
