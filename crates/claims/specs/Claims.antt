@@ -1,9 +1,9 @@
 -- The whole claim: a part for each sentence of the three demands and of document 02's requests, in the papers' order.
 -- Demand 2's first sentence and demand 3 with M-100, M-101, M-104, M-112 and M-113, which are of its lists, are the
 -- parts of `OneList`, one by one (refine_lists, Lists.antt). All of it is about the functions that the contracts of the
--- exported calls cite: `compile_on`, `start_on`, `arrive_on`, `step_on`, `board_on`, `forecast_on`, `preview_on`, `mend_on`,
--- `formula_on`, `join_on`, `told_on`, `frame_on`, `deliver_on`, `taken_on`, `agree_on`, `agree_for_on`, `pair_on`, `leak_on`.
--- proofs/ClaimsHold.antt has the one theorem that proves it.
+-- exported calls cite: `compile_on`, `start_on`, `arrive_on`, `step_on`, `board_on`, `forecast_on`, `preview_on`,
+-- `mend_on`, `formula_on`, `join_on`, `told_on`, `frame_on`, `deliver_on`, `taken_on`, `agree_on`, `agree_for_on`,
+-- `pair_on`, `leak_on`. proofs/ClaimsHold.antt has the one theorem that proves it.
 use Rattle.lib_base.specs.Basics.{All}
 use Rattle.spec_semantics.specs.Rounds.{Holds, rounds}
 use Rattle.engine.specs.Demand.{WholeDemand}

@@ -1,6 +1,6 @@
 -- Demand 2's second sentence: "With a table of 01's size, a sheet is accepted exactly if it meets 01's grammar and
 -- limits and has no circle, under an event or under none." 02, M-103: and a parameter only where 32 bytes are lent. Its
--- first sentence is `OneList.one-event` (crate refine_lists, Lists.antt).
+-- first sentence is `OneList.one_event_law` (crate refine_lists, Lists.antt).
 use Rattle.std.specs.Prelude.{ℕ, ◌≤◌, ◌<◌, ◌≡◌, List, [], length}
 use Rattle.lib_base.specs.Basics.{All}
 use Rattle.lib_word.specs.Word.{get}

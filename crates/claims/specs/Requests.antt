@@ -99,7 +99,8 @@ pub record Rights : Type 0 where
       → (who : ℕ) → may_see (fill v s) who i ≡ may m who
   -- "Where either is missing, everybody may."
   pub all_send : (v : ℕ → ℕ) (s : Sheet) (e : ℕ) → e < length s.signals → sent_sender s e ≡ none → (who : ℕ) → who < 8 → may_send (fill v s) who e ≡ true
-  pub all_see : (v : ℕ → ℕ) (s : Sheet) (i : ℕ) → i < length (rows_out s).entries → sent_viewer s i ≡ none → (who : ℕ) → who < 8 → may_see (fill v s) who i ≡ true
+  pub all_see : (v : ℕ → ℕ) (s : Sheet) (i : ℕ) → i < length (rows_out s).entries → sent_viewer s i ≡ none → (who : ℕ) → who < 8
+      → may_see (fill v s) who i ≡ true
 
 -- ---- M-108: show me the circle
 

@@ -1,8 +1,8 @@
 -- Demands 2 and 3, and M-100, M-101, M-104, M-107, M-112 and M-113 of document 02, as claims about the exported
--- functions: `compile_on`, `start_on`, `arrive_on`, `step_on`, `board_on`, `mend_on`, `forecast_on`, `preview_on` and `told_on`
--- are what their contracts cite. What is said of each list of calls and of changes of sheets: `OneList`, of lists of
--- calls alone `OnlyCalls`, of two lists `TwoLists` and `TwoOnlyCalls`, crate refine_lists, Lists.antt. The model
--- engine, and the sentences in its terms: crate spec_model, Model.antt and Claims.antt. M-107's rule for a player
+-- functions: `compile_on`, `start_on`, `arrive_on`, `step_on`, `board_on`, `mend_on`, `forecast_on`, `preview_on` and
+-- `told_on` are what their contracts cite. What is said of each list of calls and of changes of sheets: `OneList`, of
+-- lists of calls alone `OnlyCalls`, of two lists `TwoLists` and `TwoOnlyCalls`, crate refine_lists, Lists.antt. The
+-- model engine, and the sentences in its terms: crate spec_model, Model.antt and Claims.antt. M-107's rule for a player
 -- stands above: crate secrecy_engine.
 use Rattle.std.specs.Prelude.{ℕ, ◌+◌, ◌*◌, ◌≤◌, ◌<◌, ◌≡◌, List, map, length, get_or}
 use Rattle.lib_base.specs.Basics.{All}

@@ -32,7 +32,8 @@ Patiently (board i who ∷ cs) b = Patiently cs (bytes b.table (call_on b.table 
 abbrev pub AsHandedIn : Type 0
 AsHandedIn =
     (s ps t₀ l₀ : List ℕ) (x : Sheet) → Prepared s ps t₀ l₀ x → (cs : List Call) → Patiently cs (fresh_round_on s ps t₀ l₀)
-    → IdleNow (bytes_after (map calls cs) (fresh_round_on s ps t₀ l₀)) → committed_in (program_of ps x) (map call cs) ≡ taken_in_by (program_of ps x) (map call cs)
+    → IdleNow (bytes_after (map calls cs) (fresh_round_on s ps t₀ l₀))
+    → committed_in (program_of ps x) (map call cs) ≡ taken_in_by (program_of ps x) (map call cs)
 
 -- "so that two phones that do this always have equal boards"
 abbrev pub BothPatiently : Type 0

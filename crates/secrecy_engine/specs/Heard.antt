@@ -1,6 +1,6 @@
 -- The rule for a player as a claim about the exported functions: `compile_on`, `start_on`, `call_on`, `mend_on`,
--- `preview_on`, `forecast_on` and `told_on` are what their contracts cite. 02, M-107: "For a player it shall hold: if no
--- behaviour this player sees depends on a hidden one (by a name in its expression or in a handler of either phase,
+-- `preview_on`, `forecast_on` and `told_on` are what their contracts cite. 02, M-107: "For a player it shall hold: if
+-- no behaviour this player sees depends on a hidden one (by a name in its expression or in a handler of either phase,
 -- directly or by a chain), then two rounds, from fresh on with the same calls in the same order and the same
 -- parameters, their sheets differing only in start values of hidden behaviours, give this player equal answers,
 -- refusals included." M-112: "M-107's rule for a player needs its condition of both sheets, with the same behaviours

@@ -1,5 +1,5 @@
--- The bytes of the sheet that a text means are as many as `text_size` says, whatever its names mean: by induction on the
--- text.
+-- The bytes of the sheet that a text means are as many as `text_size` says, whatever its names mean: by induction on
+-- the text.
 use Rattle.lib_base.proofs.Prelude.{ℕ, ◌+◌, ◌≡◌, refl, ◌&&◌, Option, some, none, List, [], ◌∷◌, ◌++◌, map, length}
 use Rattle.lib_base.proofs.Prelude.{length-append, eqb, ltb, arith}
 use Rattle.lib_base.proofs.Tools.{by_test}

@@ -1,5 +1,6 @@
 -- A list read in a loop, as `many_of` reads it: the bound of its members does not matter where it is as large as the
--- tokens are many, since each member takes one (`many_enough`), so a turn of the loop is one of `many_of` (`many_turn`).
+-- tokens are many, since each member takes one (`many_enough`), so a turn of the loop is one of `many_of`
+-- (`many_turn`).
 use Rattle.lib_base.proofs.Prelude.{ℕ, ◌≤◌, ◌<◌, suc, zero, ◌≡◌, refl, ◌∙◌, sym, ap, true, false, Bool, false≢true}
 use Rattle.lib_base.proofs.Prelude.{List, [], ◌∷◌, ◌++◌, append_assoc, append-nil, length, arith}
 use Rattle.lib_base.specs.Basics.{pick}

@@ -1,6 +1,6 @@
--- What a result of a reader says of the bytes, and that the reader's connectives (`then`, `sized`, `byte_in`, `read_all`)
--- carry it. By clauses on the result: a fault has a number from 4 to 10, and what is got is an encoding within its
--- limits.
+-- What a result of a reader says of the bytes, and that the reader's connectives (`then`, `sized`, `byte_in`,
+-- `read_all`) carry it. By clauses on the result: a fault has a number from 4 to 10, and what is got is an encoding
+-- within its limits.
 use Rattle.lib_base.proofs.Prelude.{ℕ, ◌≤◌, ◌<◌, ◌+◌, suc, zero, ◌*◌, ◌%◌, ◌/◌, ◌^◌, ◌≡◌, refl, ◌∙◌, sym, ap, true}
 use Rattle.lib_base.proofs.Prelude.{false, Bool, List, [], ◌∷◌, ◌++◌, append_assoc, append-nil, length, get_or, eqb}
 use Rattle.lib_base.proofs.Prelude.{eqb-true, arith}

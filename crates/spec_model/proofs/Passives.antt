@@ -1,6 +1,6 @@
--- The instructions that work out the passives, of an event or of none (language `again_code`), run with all of the store
--- in scratch: they give the passives of the carried store, use no more than the stack has and leave it empty. By the
--- laws of the second phase, and since the passives follow from the actives alone.
+-- The instructions that work out the passives, of an event or of none (language `again_code`), run with all of the
+-- store in scratch: they give the passives of the carried store, use no more than the stack has and leave it empty. By
+-- the laws of the second phase, and since the passives follow from the actives alone.
 use Rattle.lib_base.proofs.Prelude.{ℕ, ◌≤◌, ◌<◌, ◌+◌, ◌≡◌, refl, ◌∙◌, sym, ap, subst, true, false, false≢true, List, []}
 use Rattle.lib_base.proofs.Prelude.{sum, length, get_or, length-append, ext_get_or, arith}
 use Rattle.lib_base.proofs.Tools.{by_test}

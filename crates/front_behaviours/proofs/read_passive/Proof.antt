@@ -1,5 +1,5 @@
--- The expression, its entry, then the ending, as in `passive_of`; the entry's numbers are small, since a node takes four
--- bytes or more.
+-- The expression, its entry, then the ending, as in `passive_of`; the entry's numbers are small, since a node takes
+-- four bytes or more.
 use Rattle.lib_base.proofs.Prelude.{◌∙◌, length, length-set, rules, arith}
 use Rattle.front_field.specs.Expression.{ReadIn}
 use Rattle.front_field.specs.declared.Read.TheVariants.{Done}

@@ -1,5 +1,5 @@
--- The expression reader and its arguments' loop are `expr_of` and `read_arguments`: by the nesting left, which falls with
--- each call.
+-- The expression reader and its arguments' loop are `expr_of` and `read_arguments`: by the nesting left, which falls
+-- with each call.
 use Rattle.lib_base.proofs.Prelude.{ℕ, ◌<◌, ap, length, length-set, rules, arith}
 use Rattle.front_field.proofs.Laws.{Turn, unroll, turn_fault, turn_done, turn_end}
 use borrow.Fn.Kinds.{In}

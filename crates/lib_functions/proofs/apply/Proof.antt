@@ -1,5 +1,5 @@
--- The dispatch is the definition's: in each arm f is a numeral, so `marked_result` computes to the callee's contract; in
--- the last no test of the definition holds.
+-- The dispatch is the definition's: in each arm f is a numeral, so `marked_result` computes to the callee's contract;
+-- in the last no test of the definition holds.
 use Rattle.lib_base.proofs.Prelude.{◌≡◌, ◌∙◌, ap, false, Bool, not, eqb, ne_eqb, rules}
 use lib.IntN.{pos}
 use Rattle.lib_base.proofs.Pick.{code}

@@ -1,4 +1,5 @@
--- `is_any_above` is `any_above`: the loop keeps that the first i waiting decide: `any_above t l p n ≡ any_above t l p i`.
+-- `is_any_above` is `any_above`: the loop keeps that the first i waiting decide:
+-- `any_above t l p n ≡ any_above t l p i`.
 use Rattle.lib_base.proofs.Prelude.{ℕ, ◌≤◌, ◌<◌, ◌-◌, suc, zero, ◌≡◌, refl, ◌∙◌, sym, true, false, List, ltb, le-ltb}
 use Rattle.lib_base.proofs.Prelude.{lt-ltb, arith}
 use Rattle.lib_base.specs.Basics.{pick}

@@ -1,5 +1,5 @@
--- `hand_fits` is `hand_fits` of the word: swapped, the event is the highest byte, and the three that make the player are
--- below 8 just where the lower two are 0 and the third is below 8.
+-- `hand_fits` is `hand_fits` of the word: swapped, the event is the highest byte, and the three that make the player
+-- are below 8 just where the lower two are 0 and the third is below 8.
 use Rattle.lib_base.proofs.Prelude.{ℕ, ◌≤◌, ◌<◌, ◌+◌, ◌*◌, ◌%◌, ◌/◌, ◌≡◌, ◌&&◌, ◌≢◌, eqb, ltb, eqb-true, le-ltb}
 use Rattle.lib_base.proofs.Prelude.{ltb-false, eqb-false, ltb-true, lt-leb, le-leb, arith}
 use Rattle.lib_base.proofs.Tools.{split}
