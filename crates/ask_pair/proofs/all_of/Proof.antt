@@ -8,10 +8,10 @@ use Rattle.ask_pair.proofs.all_of.Tie as tie
 abbrev step : ℕ → ℕ → Bool
 step j i = everyone i && eqb j i
 
-abbrev invariant-loop : tie.invariant-loop
+abbrev invariant-loop : tie.invariant-loop-i
 invariant-loop n set₀ i₀ set i = Gathered 64 (λ j. false) step n set i
 
-abbrev decreases-loop : tie.decreases-loop
+abbrev decreases-loop : tie.decreases-loop-i
 decreases-loop n set₀ i₀ set i = n - i
 
 pub all_of_spec : {M : Type 1} → statement M
@@ -24,5 +24,5 @@ all_of_spec =
     (λ c κs. omega arith)
     (λ c. omega arith)
     (λ c. omega arith)
-    (λ c. turn c.before.before.loop.invariant (omega arith) (λ j b. c.insert.ensures j))
-    (λ c j b. end c.before.loop.invariant (omega arith) j (omega arith) ∙ any_own _ everyone j b))
+    (λ c. turn c.loop-i.invariant (omega arith) (λ j b. c.insert-set.ensures j))
+    (λ c j b. end c.loop-i.invariant (omega arith) j (omega arith) ∙ any_own _ everyone j b))

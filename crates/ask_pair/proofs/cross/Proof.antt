@@ -10,4 +10,4 @@ cross_spec =
     (λ c κs. search rules)
     (λ c κs. search rules)
     (λ c κs. search rules)
-    (λ c i. rw (c.union-of.ensures i, c.before.common2.ensures i, c.before.before.common.ensures i)))
+    (λ c i. rw (c.union_of.ensures i, c.common-2.ensures i, c.common.ensures i)))

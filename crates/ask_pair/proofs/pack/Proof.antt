@@ -9,4 +9,4 @@ unfolding packed_pair
 pack_spec =
     tie.close
     (tie.spec (λ c κs. search rules) (λ c. search rules) (λ c. search rules) (λ c. search rules) (λ c. search rules)
-    (λ c. rw c.flags-at.ensures.0))
+    (λ c. rw c.flags_at.ensures.0))

@@ -17,11 +17,11 @@ pair_at_spec =
     (λ c κs. search rules)
     (λ c. search rules)
     (λ c.
-    let j = c.before.before.before.judge-sheet.ensures in
-    let q = c.judgement-number.ensures in
-    refused _ _ _ _ _ (judged_number _ _ _ _ j q) (refused_some _ _ _ _ j c.before.match.keys2 q))
+    let j = c.judge_sheet-judgement.ensures in
+    let q = c.judgement_number.ensures in
+    refused _ _ _ _ _ (judged_number _ _ _ _ j q) (refused_some _ _ _ _ j c.in_default.in_default-own.keys2 q))
     (λ c. search rules)
     (λ c κs.
-    let f = (judged_passes _ _ _ _ c.before.before.before.before.before.judge-sheet.ensures _ _ c.before.before.judgement.given.1).drafts.draft in
+    let f = (judged_passes _ _ _ _ c.judge_sheet-judgement.ensures _ _ c.in-Accepted.is).drafts.draft in
     (draft_long f, draft_events f, draft_behaviours f, draft_inside f))
-    (λ c. passed _ _ _ _ _ _ _ _ (judged_passes _ _ _ _ c.before.before.before.before.before.before.judge-sheet.ensures _ _ c.before.before.before.judgement.given.1) c.pair-for.ensures))
+    (λ c. passed _ _ _ _ _ _ _ _ (judged_passes _ _ _ _ c.judge_sheet-judgement.ensures _ _ c.in-Accepted.is) c.pair_for.ensures))

@@ -9,6 +9,6 @@ pair_for_spec =
     tie.close
     (tie.spec
     (λ c κs. search rules)
-    (λ c. declared c.before.before.before.before.args.d.now _ _ _ _ _ c.before.before.if1.true c.before.if2.true c.pair-in.ensures)
-    (λ c. second_not c.before.before.before.args.d.now _ _ _ _ c.before.if1.true c.if2.false)
-    (λ c. first_not c.before.before.args.d.now _ _ _ _ c.if1.false))
+    (λ c. declared c.args.d.now _ _ _ _ _ c.if-first-ev.true c.if-second-ev.true c.pair_in.ensures)
+    (λ c. second_not c.args.d.now _ _ _ _ c.if-first-ev.true c.if-second-ev.false)
+    (λ c. first_not c.args.d.now _ _ _ _ c.if-first-ev.false))

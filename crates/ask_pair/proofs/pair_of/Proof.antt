@@ -6,11 +6,8 @@ use Rattle.ask_pair.proofs.pair_of.Tie as tie
 
 returns : tie.Need-returns
 returns c =
-    let at_cross = c.before.before.before in
-    let at_reads = at_cross.before.before.before.before.before.before in
-    let at_entry_lem = at_reads.before.before.before.before in
-    by_sets at_entry_lem.args.writes.now at_entry_lem.args.named.now at_entry_lem.args.strict.now _ _ _ _ _ _ _ c.before.before.union-of.ensures
-    at_cross.cross.ensures c.before.cross2.ensures c.pair-by.ensures
+    by_sets c.args.writes.now c.args.named.now c.args.strict.now _ _ _ _ _ _ _ c.union_of.ensures
+    c.cross-met.ensures c.cross-shared.ensures c.pair_by.ensures
 
 pub pair_of_spec : {M : Type 1} → statement M
 pair_of_spec =

@@ -9,5 +9,5 @@ weight_of_spec =
     tie.close
     (tie.spec
     (λ c κs. search rules)
-    (λ c. (weight_set _ _ _ c.before.contains.ensures c.if1.true, omega arith))
-    (λ c. (weight_none _ _ _ c.before.contains.ensures c.if1.false, omega arith)))
+    (λ c. (weight_set _ _ _ c.contains.ensures c.if-contains.true, omega arith))
+    (λ c. (weight_none _ _ _ c.contains.ensures c.if-contains.false, omega arith)))
