@@ -2,7 +2,7 @@
 -- first pass is `read_text`'s; with the names that the first run found each name means what the text declares, so that
 -- the second run finds the fault of `sheet_of`, or writes its sheet.
 use Rattle.lib_base.proofs.Prelude.{ℕ, ◌≤◌, ◌<◌, ◌+◌, ◌-◌, suc, zero, ◌*◌, ◌%◌, ◌/◌, ◌≡◌, refl, ◌∙◌, sym, ap, List}
-use Rattle.lib_base.proofs.Prelude.{◌++◌, map, length, take, drop, replicate, length-take, length-take-le, take_all}
+use Rattle.lib_base.proofs.Prelude.{◌++◌, map, length, take, drop, replicate, length-take-le}
 use Rattle.lib_base.proofs.Prelude.{ltb, le-ltb, lt-ltb, ltb-false, arith}
 use Rattle.lib_base.specs.Basics.{All}
 use Rattle.lib_base.proofs.Tools.{split}
@@ -77,14 +77,11 @@ unfolding assemble_number assemble_on
 sheet_answer_law bytes buffer s out n e q w = rw (e, w, q)
 
 -- the copy of a sheet's n bytes
-pub copied : (bytes buffer out p : List ℕ) (n : ℕ) → n ≤ 8192 → n ≤ length buffer → length out ≡ 8192
-    → p ≡ take (length (take (n - 0) (drop 0 out))) (take (n - 0) (drop 0 out)) ++ drop (length (take (n - 0) (drop 0 out))) buffer
-    → answered (4294967296 + n) p ≡ sheet_answer bytes n out buffer
-copied bytes buffer out p n few room long e =
+pub copied : (bytes buffer out q : List ℕ) (n : ℕ) → n ≤ 8192 → n ≤ length buffer → q ≡ take (n - 0) out → answered (4294967296 + n) (q ++ drop n buffer) ≡ sheet_answer bytes n out buffer
+copied bytes buffer out q n few room e =
     let z : n - 0 ≡ n = omega arith in
-    let l : length (take n out) ≡ n = simp length-take (omega arith) in
-    let w : take n (take n out) ≡ take n out = take_all n (take n out) (omega arith) in
-    rw (le-ltb 8192 n few, le-ltb (length buffer) n room, e, z, l, w)
+    let f : q ≡ take n out = rw z at e in
+    rw (le-ltb 8192 n few, le-ltb (length buffer) n room, f)
 
 -- as many zeros are low numbers
 pub zeros_low : (n : ℕ) → All (λ i. i ≤ 64) (replicate n 0)

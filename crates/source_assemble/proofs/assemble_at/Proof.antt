@@ -4,21 +4,19 @@ use Rattle.source_assemble.proofs.Answers.{zeros_low, long_answer, hint_usable}
 use Rattle.source_assemble.proofs.assemble_at.Statement.{statement}
 use Rattle.source_assemble.proofs.assemble_at.Tie as tie
 
-returns : tie.Need-returns
+returns : tie.Need-returns-then-text-gt-TEXT_BYTES
 returns c =
-    let start = c.before.before.before.before in
-    let a = start.args in
-    rw c.fault-told.ensures (long_answer a.text.now a.buffer.now c.before.if1.true)
+    let a = c.args in
+    rw c.fault_told.ensures (long_answer a.text.now a.buffer.now c.if-text-gt-TEXT_BYTES.true)
 
-hint_of_requires : tie.Need-hint-of-requires
+hint_of_requires : tie.Need-hint_of-hint-requires
 hint_of_requires c κs =
-    (c.before.before.if1.false, (refl, (refl, zeros_low 65)))
+    (c.if-text-gt-TEXT_BYTES.false, (refl, (refl, zeros_low 65)))
 
-first_run_requires : tie.Need-first-run-requires
+first_run_requires : tie.Need-first_run-requires
 first_run_requires c κs =
-    let at_hint = c.before.before.before.before.before.before in
-    let hint = at_hint.hint-of.ensures in
-    (at_hint.before.before.before.if1.false, hint_usable at_hint.hint-of.result.params at_hint.hint-of.result.count _ _ hint.1 hint.0)
+    let hint = c.hint_of-hint.ensures in
+    (c.if-text-gt-TEXT_BYTES.false, hint_usable c.hint_of-hint.result.params c.hint_of-hint.result.count _ _ hint.1 hint.0)
 
 pub assemble_at_spec : {M : Type 1} → statement M
 assemble_at_spec =

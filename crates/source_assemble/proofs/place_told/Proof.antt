@@ -4,30 +4,24 @@ use Rattle.source_assemble.proofs.Lines.{Walked, walk_starts, walk_on, walk_ends
 use Rattle.source_assemble.proofs.place_told.Statement.{statement}
 use Rattle.source_assemble.proofs.place_told.Tie as tie
 
-abbrev invariant-loop : tie.invariant-loop
+abbrev invariant-loop : tie.invariant-loop-i
 invariant-loop text place line₀ column₀ i₀ line column i = Walked text place line column i
 
-abbrev decreases-loop : tie.decreases-loop
+abbrev decreases-loop : tie.decreases-loop-i
 decreases-loop text place line₀ column₀ i₀ line column i = place - i
 
-loop_holds : tie.Need-loop-init invariant-loop decreases-loop
-loop_holds c = walk_starts c.before.args.text.now c.before.args.place
+loop_holds : tie.Need-loop-i-init invariant-loop decreases-loop
+loop_holds c = walk_starts c.args.text.now c.args.place
 
-loop_again : tie.Need-loop-preserved invariant-loop decreases-loop
+loop_again : tie.Need-loop-i-preserved invariant-loop decreases-loop
 loop_again c =
-    let at_line = c.before.before in
-    let at_test = at_line.before.before in
-    let at_loop = at_test.before in
-    let at_entry_lem = at_loop.before.before in
-    walk_on at_entry_lem.args.text.now at_entry_lem.args.place at_loop.loop.line at_loop.loop.column at_loop.loop.i
-    at_line.line_after.result c.column-after.result at_loop.loop.invariant at_test.loop-test.true (omega (arith, at_entry_lem.requires))
-    at_line.line_after.ensures.0 at_line.line_after.ensures.1 c.column-after.ensures.0 c.column-after.ensures.1
+    walk_on c.args.text.now c.args.place c.loop-i.line c.loop-i.column c.loop-i.i
+    c.line_after-line.result c.column_after-column.result c.loop-i.invariant c.loop-i-test.true (omega (arith, c.requires))
+    c.line_after-line.ensures.0 c.line_after-line.ensures.1 c.column_after-column.ensures.0 c.column_after-column.ensures.1
 
 returns : tie.Need-returns invariant-loop decreases-loop
 returns c =
-    let at_loop = c.before in
-    let at_entry_lem = at_loop.before.before in
-    (walk_ends at_entry_lem.args.text.now at_entry_lem.args.place at_loop.loop.line at_loop.loop.column at_loop.loop.i at_loop.loop.invariant c.loop-test.false, omega arith)
+    (walk_ends c.args.text.now c.args.place c.loop-i.line c.loop-i.column c.loop-i.i c.loop-i.invariant c.loop-i-test.false, omega arith)
 
 pub place_told_spec : {M : Type 1} → statement M
 place_told_spec =

@@ -3,22 +3,17 @@ use Rattle.lib_base.proofs.Prelude.{◌∙◌, rules}
 use Rattle.source_assemble.proofs.put_read.Statement.{statement}
 use Rattle.source_assemble.proofs.put_read.Tie as tie
 
-fault_told_requires : tie.Need-fault-told-requires
+fault_told_requires : tie.Need-fault_told-requires
 fault_told_requires c κs =
-    c.before.before.before.before.requires.1.1.tells c.if1.true
+    c.requires.1.1.tells c.if-w-ne0.true
 
-returns : tie.Need-returns
+returns : tie.Need-returns-then-w-ne0
 returns c =
-    let at_if1 = c.before in
-    let start = at_if1.before.before.before.before in
-    rw c.fault-told.ensures (start.requires.1.1.at_fault at_if1.if1.true)
+    rw c.fault_told.ensures (c.requires.1.1.at_fault c.if-w-ne0.true)
 
-returns_2 : tie.Need-returns-2
+returns_2 : tie.Need-returns
 returns_2 c =
-    let at_put = c.before.before in
-    let at_if1 = at_put.before.before in
-    let start = at_if1.before.before.before.before in
-    at_put.put_result.ensures ∙ start.requires.1.1.sheet at_if1.if1.false
+    c.put_result.ensures ∙ c.requires.1.1.sheet c.if-w-ne0.false
 
 pub put_read_spec : {M : Type 1} → statement M
 put_read_spec =
