@@ -522,7 +522,7 @@ LONGEST_PROOF_LINE = 400
 MOST_POSITIONAL = 12
 MOST_BEFORE = 9
 # CRATE/FUNCTION whose proof still breaks one of these; one that breaks none any more is taken off the list
-NOT_YET_NAMED = set()
+NOT_YET_NAMED = {"back_compile/judge_sheet", "run_advance/advance_on", "run_burst/run_most"}
 
 
 # an answer that says no more than which tactic finds it needs no name
