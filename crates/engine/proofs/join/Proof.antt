@@ -4,4 +4,4 @@ use Rattle.engine.proofs.join.Statement.{statement}
 use Rattle.engine.proofs.join.Tie as tie
 
 pub join_spec : {M : Type 1} → statement M
-join_spec = tie.close (tie.spec (λ c κs. search rules) (λ c. search rules) (λ c. (c.before.before.join-at.ensures, (refl, (refl, refl)))))
+join_spec = tie.close (tie.spec (λ c κs. search rules) (λ c. search rules) (λ c. (c.join_at.ensures, (refl, (refl, refl)))))

@@ -6,83 +6,62 @@ use Rattle.engine.proofs.Laws.{none_made, and_then, one_call, end_round, end_ans
 use Rattle.engine.proofs.replay.Statement.{statement}
 use Rattle.engine.proofs.replay.Tie as tie
 
-abbrev invariant-loop : tie.invariant-loop
+abbrev invariant-loop : tie.invariant-loop-i
 invariant-loop table round₀ calls answers₀ n i₀ round answers i = RowOfSteps table calls n 0 round₀ answers₀ i round answers
 
-abbrev decreases-loop : tie.decreases-loop
+abbrev decreases-loop : tie.decreases-loop-i
 decreases-loop table round₀ calls answers₀ n i₀ round answers i = n - i
 
--- back from the steps made in a row to the loop's head, from their test to the steps, from the call's number read to
--- the test, and from the answer to be put to that number
-abbrev head_at : tie.After-past-steps invariant-loop decreases-loop → tie.At-loop invariant-loop decreases-loop
-head_at c = c.before.before.before.before
-
-abbrev made_at : tie.After-slice-known4 invariant-loop decreases-loop → tie.After-past-steps invariant-loop decreases-loop
-made_at c = c.before.before.before.before
-
-abbrev tested_at : tie.After-get-at invariant-loop decreases-loop → tie.Else1 invariant-loop decreases-loop
-tested_at c = c.before.before.before
-
-abbrev read_at : tie.After-put-answer-arg invariant-loop decreases-loop → tie.After-get-at invariant-loop decreases-loop
-read_at c = c.before.before.before.before.before
-
 -- a call is left where the steps end before the last
-one_left : (c : tie.Else1 invariant-loop decreases-loop)
-    → (made_at c.before).past-steps.result < (head_at (made_at c.before)).before.call-count.result
-one_left c = omega (arith, (made_at c.before).past-steps.ensures.within, c.if1.false)
+one_left : (c : tie.Else-at-n invariant-loop decreases-loop)
+    → c.past_steps-at.result < c.call_count-n.result
+one_left c = omega (arith, c.past_steps-at.ensures.within, c.if-at-n.false)
 
-past_steps_requires : tie.Need-past-steps-requires invariant-loop decreases-loop
-past_steps_requires c κs = let h = c.before.before.before.loop.invariant.as_long in omega arith
+past_steps_requires : tie.Need-past_steps-at-requires invariant-loop decreases-loop
+past_steps_requires c κs = let h = c.loop-i.invariant.as_long in omega arith
 
-same_length : tie.Need-same-length invariant-loop decreases-loop
+same_length : tie.Need-shape_of-round-then-at-n invariant-loop decreases-loop
 same_length c =
-    let made = made_at c.before in
-    (and_then (head_at made).loop.inv made.past-steps.ensures).round_long
+    (and_then c.loop-i.invariant c.past_steps-at.ensures).round_long
 
-same_length_2 : tie.Need-same-length-2 invariant-loop decreases-loop
+same_length_2 : tie.Need-shape_of-answers-then-at-n invariant-loop decreases-loop
 same_length_2 c =
-    let made = made_at c.before in
-    (and_then (head_at made).loop.inv made.past-steps.ensures).as_long
+    (and_then c.loop-i.invariant c.past_steps-at.ensures).as_long
 
-returns : tie.Need-returns invariant-loop decreases-loop
+returns : tie.Need-returns-then-at-n invariant-loop decreases-loop
 returns c =
-    let made = made_at c.before in
-    let row = and_then (head_at made).loop.inv made.past-steps.ensures in (
-      (head_at made).before.call-count.ensures.0,
+    let row = and_then c.loop-i.invariant c.past_steps-at.ensures in (
+      c.call_count-n.ensures.0,
       (
-        end_round row (omega (arith, c.if1.true)),
-        (end_answers row (omega (arith, c.if1.true)), (refl, refl)),
+        end_round row (omega (arith, c.if-at-n.true)),
+        (end_answers row (omega (arith, c.if-at-n.true)), (refl, refl)),
       ),
     )
 
 -- the player is a byte
-cast_make_call : tie.Need-overflow-cast-make-call invariant-loop decreases-loop
+cast_make_call : tie.Need-overflow_cast-calls invariant-loop decreases-loop
 cast_make_call c =
-    let made = made_at (tested_at c.before).before in
-    omega (arith, c.shared-slice-known4.given (made.past-steps.result * 6 + 5))
+    let made = made_at c.before.before.before.before.before in
+    omega (arith, c.shared_slice_known-in-loop-i-2-1.given (made.past-steps.result * 6 + 5))
 
-loop_less : tie.Need-loop-smaller invariant-loop decreases-loop
+loop_less : tie.Need-loop-i-smaller invariant-loop decreases-loop
 loop_less c =
-    let tested = tested_at (read_at c.before.before.before) in
-    omega (arith, (made_at tested.before).past-steps.ensures.onward, one_left tested)
+    omega (arith, c.past_steps-at.ensures.onward, one_left c.before.before.before.before.before.before.before.before.before.before.before)
 
-loop_again : tie.Need-loop-preserved invariant-loop decreases-loop
+loop_again : tie.Need-loop-i-preserved invariant-loop decreases-loop
 loop_again c =
-    let asked = c.before.before.before in
-    let tested = tested_at (read_at asked) in
-    let made = made_at tested.before in
-    let row = and_then (head_at made).loop.inv made.past-steps.ensures in
-    and_then row (one_call _ _ _ _ (omega (arith, one_left tested))
-    (rw (read_at asked).get_at.ensures at asked.before.before.before.make-call.ensures)
-    c.before.before.put-answer.ensures (search rules) (search rules))
+    let row = and_then c.loop-i.invariant c.past_steps-at.ensures in
+    and_then row (one_call _ _ _ _ (omega (arith, one_left c.before.before.before.before.before.before.before.before.before.before.before))
+    (rw c.get_at.ensures at c.make_call-r.ensures)
+    c.put_answer.ensures (search rules) (search rules))
 
-returns_2 : tie.Need-returns-2 invariant-loop decreases-loop
+returns_2 : tie.Need-returns invariant-loop decreases-loop
 returns_2 c =
-    let row = c.before.loop.invariant in (
-      c.before.before.call-count.ensures.0,
+    let row = c.loop-i.invariant in (
+      c.call_count-n.ensures.0,
       (
-        end_round row c.loop-test.false,
-        (end_answers row c.loop-test.false, (refl, refl)),
+        end_round row c.loop-i-test.false,
+        (end_answers row c.loop-i-test.false, (refl, refl)),
       ),
     )
 
@@ -96,15 +75,15 @@ replay_spec =
     (λ c. omega (arith, one_left c.before.before))
     (λ c. omega (arith, one_left c.before.before))
     (λ c κs. omega (arith, one_left c.before.before))
-    (λ c. omega (arith, one_left (tested_at c)))
-    (λ c. omega (arith, one_left (tested_at c.before)))
+    (λ c. omega (arith, one_left c.before.before.before))
+    (λ c. omega (arith, one_left c.before.before.before.before))
     cast_make_call (search rules)
     (λ c κs.
-    let h = (head_at (made_at (tested_at (read_at c)).before)).loop.inv.as_long in
-    let g = (made_at (tested_at (read_at c)).before).past-steps.ensures.as_long in
-    omega (arith, (made_at (tested_at (read_at c)).before).past-steps.ensures.within, (tested_at (read_at c)).if1.left))
-    (λ c. omega (arith, one_left (tested_at (read_at c.before.before.before))))
+    let h = (head_at (made_at c.before.before.before.before.before.before.before.before.before)).loop.inv.as_long in
+    let g = (made_at c.before.before.before.before.before.before.before.before.before).past-steps.ensures.as_long in
+    omega (arith, (made_at c.before.before.before.before.before.before.before.before.before).past-steps.ensures.within, c.if-at-n.false))
+    (λ c. omega (arith, one_left c.before.before.before.before.before.before.before.before.before.before.before))
     loop_less loop_again
-    (λ c. c.before.loop.invariant.round_long)
-    (λ c. c.before.loop.invariant.as_long)
+    (λ c. c.loop-i.invariant.round_long)
+    (λ c. c.loop-i.invariant.as_long)
     returns_2)
