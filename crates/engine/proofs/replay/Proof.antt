@@ -12,11 +12,6 @@ invariant-loop table round₀ calls answers₀ n i₀ round answers i = RowOfSte
 abbrev decreases-loop : tie.decreases-loop-i
 decreases-loop table round₀ calls answers₀ n i₀ round answers i = n - i
 
--- a call is left where the steps end before the last
-one_left : (c : tie.Else-at-n invariant-loop decreases-loop)
-    → c.past_steps-at.result < c.call_count-n.result
-one_left c = omega (arith, c.past_steps-at.ensures.within, c.if-at-n.false)
-
 past_steps_requires : tie.Need-past_steps-at-requires invariant-loop decreases-loop
 past_steps_requires c κs = let h = c.loop-i.invariant.as_long in omega arith
 
@@ -41,17 +36,16 @@ returns c =
 -- the player is a byte
 cast_make_call : tie.Need-overflow_cast-calls invariant-loop decreases-loop
 cast_make_call c =
-    let made = made_at c.before.before.before.before.before in
-    omega (arith, c.shared_slice_known-in-loop-i-2-1.given (made.past-steps.result * 6 + 5))
+    omega (arith, c.shared_slice_known-in-loop-i-2-1.given (c.past_steps-at.result * 6 + 5))
 
 loop_less : tie.Need-loop-i-smaller invariant-loop decreases-loop
 loop_less c =
-    omega (arith, c.past_steps-at.ensures.onward, one_left c.before.before.before.before.before.before.before.before.before.before.before)
+    omega (arith, c.past_steps-at.ensures.onward, c.past_steps-at.ensures.within, c.if-at-n.false)
 
 loop_again : tie.Need-loop-i-preserved invariant-loop decreases-loop
 loop_again c =
     let row = and_then c.loop-i.invariant c.past_steps-at.ensures in
-    and_then row (one_call _ _ _ _ (omega (arith, one_left c.before.before.before.before.before.before.before.before.before.before.before))
+    and_then row (one_call _ _ _ _ (omega (arith, c.past_steps-at.ensures.within, c.if-at-n.false))
     (rw c.get_at.ensures at c.make_call-r.ensures)
     c.put_answer.ensures (search rules) (search rules))
 
@@ -71,18 +65,18 @@ replay_spec =
     (tie.spec invariant-loop decreases-loop (search rules)
     (λ c. none_made _ _ _ _ (omega arith))
     past_steps_requires same_length same_length_2 returns
-    (λ c. omega (arith, one_left c))
-    (λ c. omega (arith, one_left c.before.before))
-    (λ c. omega (arith, one_left c.before.before))
-    (λ c κs. omega (arith, one_left c.before.before))
-    (λ c. omega (arith, one_left c.before.before.before))
-    (λ c. omega (arith, one_left c.before.before.before.before))
+    (λ c. omega (arith, c.past_steps-at.ensures.within, c.if-at-n.false))
+    (λ c. omega (arith, c.past_steps-at.ensures.within, c.if-at-n.false))
+    (λ c. omega (arith, c.past_steps-at.ensures.within, c.if-at-n.false))
+    (λ c κs. omega (arith, c.past_steps-at.ensures.within, c.if-at-n.false))
+    (λ c. omega (arith, c.past_steps-at.ensures.within, c.if-at-n.false))
+    (λ c. omega (arith, c.past_steps-at.ensures.within, c.if-at-n.false))
     cast_make_call (search rules)
     (λ c κs.
-    let h = (head_at (made_at c.before.before.before.before.before.before.before.before.before)).loop.inv.as_long in
-    let g = (made_at c.before.before.before.before.before.before.before.before.before).past-steps.ensures.as_long in
-    omega (arith, (made_at c.before.before.before.before.before.before.before.before.before).past-steps.ensures.within, c.if-at-n.false))
-    (λ c. omega (arith, one_left c.before.before.before.before.before.before.before.before.before.before.before))
+    let h = c.loop-i.invariant.as_long in
+    let g = c.past_steps-at.ensures.as_long in
+    omega (arith, c.past_steps-at.ensures.within, c.if-at-n.false))
+    (λ c. omega (arith, c.past_steps-at.ensures.within, c.if-at-n.false))
     loop_less loop_again
     (λ c. c.loop-i.invariant.round_long)
     (λ c. c.loop-i.invariant.as_long)

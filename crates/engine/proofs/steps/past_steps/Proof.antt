@@ -15,7 +15,7 @@ past_steps_spec =
     (λ c κs. search rules)
     (λ c. search rules)
     (λ c. none_made _ _ _ _ (omega arith))
-    (λ c κs. (ours_sound _ _ (sym c.is_ours.ensures.0 ∙ not-false _ c.if-not-is_ours.false), omega arith, search rules, search rules))
+    (λ c κs. (ours_sound _ _ (sym c.is_ours.ensures.0 ∙ c.if-not-is_ours.false), omega arith, search rules, search rules))
     (λ c. search rules)
     (λ c. search rules)
     (λ c. search rules))
