@@ -2,7 +2,7 @@
 """module.py PROVED COMPILED CALL...: whether a module of LLVM that ./release compiles is the one that
 rattle lowered, both as text. They may differ in the names of the exported calls, which have the prefix engine_ in the second, in
 what is said of the processor, and in attributes that say how a function is compiled and nothing of what it does. The
-second may have .. for every :: in a name.
+second may have .. for every :: in a name, and ptrtoint for every ptrtoaddr, which is the same number.
 The first other difference is printed, and the program ends with 1.
 
 module.py --planted PROVED COMPILED CALL... changes the second in many ways, one at a time: each change but those that
@@ -43,6 +43,7 @@ def renamed(text, calls):
 def difference(proved, compiled, calls):
     """The first line that is not the same, in words; None where there is none."""
     proved = proved if "::" in compiled else proved.replace("::", "..")
+    proved = proved if " = ptrtoaddr ptr " in compiled else proved.replace(" = ptrtoaddr ptr ", " = ptrtoint ptr ")
     ours, theirs = lines_of(renamed(proved, calls)), lines_of(compiled)
     for k, (a, b) in enumerate(zip(ours, theirs)):
         if a != b:
