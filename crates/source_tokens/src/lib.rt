@@ -11,7 +11,7 @@ ghost use Rattle.source_coding.specs.Bounds.{text_bytes};
 
 use lib_signature::functions;
 use source_coding::{limits, signs};
-use text_marks::{byte_at, is_digit};
+use text_marks::is_digit;
 
 // A token with its place and the place behind it: a number as far as 2 ^ 31 + 1 between them, a name, a sign with its
 // number between them. The end of the text and a stray byte have their own place behind them.
@@ -20,6 +20,13 @@ pub enum Token {
     Number(usize, u64, usize),
     Name(usize, usize),
     Sign(usize, u8, usize),
+}
+
+// The byte at a place; 0 past the end.
+pub fn byte_at(text: &[u8], at: usize) -> u8
+    ensures { result ≡ get_or text.now at 0 }
+{
+    text_marks::byte_at(text, at)
 }
 
 // The place of a token.
