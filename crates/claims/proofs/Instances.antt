@@ -40,7 +40,7 @@ use Rattle.refine_lists.specs.Lists.{board_of, fresh_round_on, Prepared}
 use Rattle.engine.specs.Demand.{EveryList}
 use Rattle.engine_agree.specs.Final.{final, final_bytes, final_program}
 use Rattle.engine_agree.proofs.Computed.{bytes}
-use Rattle.source_language.specs.Faults.{longSheet, shortBuffer, longText}
+use Rattle.source_language.specs.Faults.{long_sheet_fault, short_buffer_fault, long_text_fault}
 use Rattle.source_language.specs.Answer.{written, TextMeans, refused_at}
 use Rattle.source_language.specs.Assembled.{assemble_on}
 use Rattle.claims.specs.Demand1.{OurRound, hand_count, StepGives, is_idle, has_run, has_committed, has_committed_over, has_started, has_broken_in}
@@ -211,11 +211,11 @@ module _ (c : Claims) where
   largest_sheet text buffer s m h k = c.texts.assembled text buffer s m (omega arith) (omega arith)
 
   a_byte_short : (text buffer : List ℕ) (s : Sheet) → TextMeans text s → length (encode s) ≡ 8192 → length buffer ≡ 8191
-      → assemble_on text buffer ≡ refused_at shortBuffer (length text) text buffer
+      → assemble_on text buffer ≡ refused_at short_buffer_fault (length text) text buffer
   a_byte_short text buffer s m h k = c.texts.short_buffer text buffer s m (omega arith) (omega arith)
 
-  too_large_a_sheet : (text buffer : List ℕ) (s : Sheet) → TextMeans text s → length (encode s) ≡ 8193 → assemble_on text buffer ≡ refused_at longSheet (length text) text buffer
+  too_large_a_sheet : (text buffer : List ℕ) (s : Sheet) → TextMeans text s → length (encode s) ≡ 8193 → assemble_on text buffer ≡ refused_at long_sheet_fault (length text) text buffer
   too_large_a_sheet text buffer s m h = c.texts.long_sheet text buffer s m (omega arith)
 
-  too_long_a_text : (text buffer : List ℕ) → length text ≡ 65537 → assemble_on text buffer ≡ refused_at longText 65536 text buffer
+  too_long_a_text : (text buffer : List ℕ) → length text ≡ 65537 → assemble_on text buffer ≡ refused_at long_text_fault 65536 text buffer
   too_long_a_text text buffer h = c.texts.long_text text buffer (omega arith)

@@ -11,7 +11,7 @@ use Rattle.back_compile.proofs.AcceptedExactly.{accepted_exactly}
 use Rattle.lib_word.specs.Word.{get}
 use Rattle.source_language.specs.Answer.{written, TextMeans}
 use Rattle.source_language.specs.Assembled.{assemble_on}
-use Rattle.source_language.specs.Faults.{shortBuffer}
+use Rattle.source_language.specs.Faults.{short_buffer_fault}
 use Rattle.source_coding.specs.Faults.{fault_number}
 use Rattle.source_rendering.specs.Describe.{described}
 use Rattle.source_describe.specs.Describing.{text_delivered, describe_on}
@@ -40,7 +40,7 @@ module _ (bytes buffer : List ℕ) where
         → describe_on bytes buffer ≡ answered (4294967296 + length (described s)) (described s ++ drop (length (described s)) buffer)
     with_room room = described_so ∙ rw (le-ltb (length buffer) (length (described s)) room)
 
-    without_room : length buffer < length (described s) → describe_on bytes buffer ≡ answered (fault_number shortBuffer) buffer
+    without_room : length buffer < length (described s) → describe_on bytes buffer ≡ answered (fault_number short_buffer_fault) buffer
     without_room room = described_so ∙ rw (lt-ltb (length buffer) (length (described s)) room)
 
 read_again : (bytes : List ℕ) (s : Sheet) → encode s ≡ bytes → TextMeans (described s) s → length (encode s) ≤ 8192 → (buffer : List ℕ) → length bytes ≤ length buffer

@@ -11,7 +11,7 @@ use Rattle.back_compile.specs.Compiled.{program_of}
 use Rattle.text_formula.specs.Answer.{answered}
 use Rattle.source_language.specs.Tokens.{SheetToken, TokensOfText}
 use Rattle.source_language.specs.Text.{Text}
-use Rattle.source_language.specs.Faults.{Kind, longText, longSheet, shortBuffer}
+use Rattle.source_language.specs.Faults.{Kind, long_text_fault, long_sheet_fault, short_buffer_fault}
 use Rattle.source_language.specs.Grammar.{TextSays}
 use Rattle.source_language.specs.Renaming.{KeepsApart, text_as}
 use Rattle.source_coding.specs.Faults.{fault_number}
@@ -30,7 +30,7 @@ pub record SheetDescribed (bytes : List ℕ) : Type 0 where
   pub accepted : SheetAccepted (get (replicate 32 0)) 32 sheet
   pub text_written : (buffer : List ℕ) → length (described sheet) ≤ length buffer
       → describe_on bytes buffer ≡ answered (told (length (described sheet))) (described sheet ++ drop (length (described sheet)) buffer)
-  pub too_short : (buffer : List ℕ) → length buffer < length (described sheet) → describe_on bytes buffer ≡ answered (fault_number shortBuffer) buffer
+  pub too_short : (buffer : List ℕ) → length buffer < length (described sheet) → describe_on bytes buffer ≡ answered (fault_number short_buffer_fault) buffer
   pub text_within : length (described sheet) ≤ 65536
   pub back : (buffer : List ℕ) → length bytes ≤ length buffer
       → assemble_on (described sheet) buffer ≡ (written (length bytes), bytes ++ drop (length bytes) buffer)
@@ -51,11 +51,11 @@ pub record Texts : Type 0 where
   pub unchanged : (bytes buffer : List ℕ) (k : Kind) (l c : ℕ) → (assemble_on bytes buffer).0 ≡ turned_down k l c → (assemble_on bytes buffer).1 ≡ buffer
   -- "A text has at most 65,536 bytes; a longer one is turned down before anything else", at the first byte that is too
   -- many. "Then a sheet over 8,192 bytes; last a buffer that is too short", at the end of the text
-  pub long_text : (bytes buffer : List ℕ) → 65536 < length bytes → assemble_on bytes buffer ≡ refused_at longText 65536 bytes buffer
+  pub long_text : (bytes buffer : List ℕ) → 65536 < length bytes → assemble_on bytes buffer ≡ refused_at long_text_fault 65536 bytes buffer
   pub long_sheet : (bytes buffer : List ℕ) (s : Sheet) → TextMeans bytes s → 8192 < length (encode s)
-      → assemble_on bytes buffer ≡ refused_at longSheet (length bytes) bytes buffer
+      → assemble_on bytes buffer ≡ refused_at long_sheet_fault (length bytes) bytes buffer
   pub short_buffer : (bytes buffer : List ℕ) (s : Sheet) → TextMeans bytes s → length (encode s) ≤ 8192 → length buffer < length (encode s)
-      → assemble_on bytes buffer ≡ refused_at shortBuffer (length bytes) bytes buffer
+      → assemble_on bytes buffer ≡ refused_at short_buffer_fault (length bytes) bytes buffer
   -- the call's number tells all of this, whatever was lent: how many bytes, or kind, line and column
   pub told_apart : (a p b q : List ℕ) → (assemble_number a p).0 ≡ (assemble_number b q).0 → (assemble_on a p).0 ≡ (assemble_on b q).0
   -- "what assemble writes is accepted by compile but for 12, 13 and 20, and means what the text says": it is within the

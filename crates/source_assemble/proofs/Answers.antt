@@ -11,7 +11,7 @@ use Rattle.spec_language.specs.Sheet.{Entry}
 use Rattle.spec_language.specs.Reading.{sheet}
 use Rattle.spec_language.specs.Grammar.{encode}
 use Rattle.source_language.specs.Text.{Parameter, TextEvent, TextBehaviour, Text, text}
-use Rattle.source_language.specs.Faults.{Kind, outside, too_large, off_scale, tooMany, declaredTwice, secondHandler, too_deep, unknown_name, noSuchCell, longSheet, shortBuffer, longText, OrFault, fault, fine, and_then}
+use Rattle.source_language.specs.Faults.{Kind, outside, too_large, off_scale, too_many_fault, declared_twice_fault, second_handler_fault, too_deep, unknown_name, no_such_cell_fault, long_sheet_fault, short_buffer_fault, long_text_fault, OrFault, fault, fine, and_then}
 use Rattle.source_language.specs.Meaning.{NameMeaning, meaning_of_name, entries_of, signal_of, sheet_of}
 use Rattle.source_language.specs.Reader.{read_text}
 use Rattle.source_language.specs.Answer.{line_from, column_from, turned_down}
@@ -38,15 +38,15 @@ kind_few : (k : Kind) → fault_number k ≤ 42
 kind_few outside = omega arith
 kind_few too_large = omega arith
 kind_few off_scale = omega arith
-kind_few tooMany = omega arith
-kind_few declaredTwice = omega arith
-kind_few secondHandler = omega arith
+kind_few too_many_fault = omega arith
+kind_few declared_twice_fault = omega arith
+kind_few second_handler_fault = omega arith
 kind_few too_deep = omega arith
 kind_few unknown_name = omega arith
-kind_few noSuchCell = omega arith
-kind_few longSheet = omega arith
-kind_few shortBuffer = omega arith
-kind_few longText = omega arith
+kind_few no_such_cell_fault = omega arith
+kind_few long_sheet_fault = omega arith
+kind_few short_buffer_fault = omega arith
+kind_few long_text_fault = omega arith
 
 -- n and p out of n * 2 ^ 32 + p
 apart : (n p : ℕ) → p ≤ 65536 → ((n * 4294967296 + p) / 4294967296 ≡ n) × ((n * 4294967296 + p) % 4294967296 ≡ p)
@@ -67,9 +67,9 @@ pub fault_answer : (bytes buffer : List ℕ) (k : Kind) (p : ℕ) → p ≤ 6553
 unfolding assemble_number assemble_on
 fault_answer bytes buffer k p h e = rw (e, told_is bytes k p h)
 
-pub long_answer : (bytes buffer : List ℕ) → 65536 < length bytes → answered (fault_numbered bytes (fault_word longText 65536)) buffer ≡ assemble_number bytes buffer
+pub long_answer : (bytes buffer : List ℕ) → 65536 < length bytes → answered (fault_numbered bytes (fault_word long_text_fault 65536)) buffer ≡ assemble_number bytes buffer
 unfolding assembled
-long_answer bytes buffer h = fault_answer bytes buffer longText 65536 (omega arith) (rw (lt-ltb 65536 (length bytes) h))
+long_answer bytes buffer h = fault_answer bytes buffer long_text_fault 65536 (omega arith) (rw (lt-ltb 65536 (length bytes) h))
 
 pub sheet_answer_law : (bytes buffer s out : List ℕ) (n : ℕ) → assembled bytes (length buffer) ≡ fine s → n ≡ length s → take n out ≡ s
     → answered (4294967296 + n) (take n out ++ drop n buffer) ≡ assemble_number bytes buffer
@@ -182,9 +182,9 @@ module _ (bytes buffer : List ℕ) (few : length bytes ≤ 65536) where
         let size : n ≡ length (encode (sheet (map signal_of es) xs)) = q ∙ sym (sheet_takes (meaning_of_name 0 ps bs) ps es bs xs e) in
         let j = judged (fine xs) e (length buffer) in
         split (ltb 8192 n)
-        (λ a. rw a (fault_answer bytes buffer longSheet (length bytes) few (j ∙ rw (← size, a))))
+        (λ a. rw a (fault_answer bytes buffer long_sheet_fault (length bytes) few (j ∙ rw (← size, a))))
         (λ a. split (ltb (length buffer) n)
-        (λ b. rw (a, b) (fault_answer bytes buffer shortBuffer (length bytes) few (j ∙ rw (← size, a, b))))
+        (λ b. rw (a, b) (fault_answer bytes buffer short_buffer_fault (length bytes) few (j ∙ rw (← size, a, b))))
         (λ b. rw (a, b) (sheet_answer_law bytes buffer (encode (sheet (map signal_of es) xs)) out n (j ∙ rw (← size, a, b)) size (k (ltb-false 8192 n a)))))
 
   -- names are found as the text declares them

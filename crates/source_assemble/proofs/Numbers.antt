@@ -8,7 +8,7 @@ use Rattle.spec_language.specs.Sheet.{Entry, Sheet}
 use Rattle.spec_language.specs.Reading.{sheet}
 use Rattle.spec_language.specs.Grammar.{encode}
 use Rattle.source_language.specs.Text.{Parameter, TextEvent, TextBehaviour, Text, text}
-use Rattle.source_language.specs.Faults.{Kind, outside, too_large, off_scale, tooMany, declaredTwice, secondHandler, too_deep, unknown_name, noSuchCell, longSheet, shortBuffer, longText, OrFault, fault, fine, and_then}
+use Rattle.source_language.specs.Faults.{Kind, outside, too_large, off_scale, too_many_fault, declared_twice_fault, second_handler_fault, too_deep, unknown_name, no_such_cell_fault, long_sheet_fault, short_buffer_fault, long_text_fault, OrFault, fault, fine, and_then}
 use Rattle.source_language.specs.Meaning.{meaning_of_name, entries_of, signal_of, sheet_of}
 use Rattle.source_language.specs.Reader.{read_text}
 use Rattle.source_language.specs.Answer.{line_from, column_from, TextOutcome, written, turned_down}
@@ -23,44 +23,44 @@ pub kind_some : (k : Kind) → 0 < fault_number k
 kind_some outside = omega arith
 kind_some too_large = omega arith
 kind_some off_scale = omega arith
-kind_some tooMany = omega arith
-kind_some declaredTwice = omega arith
-kind_some secondHandler = omega arith
+kind_some too_many_fault = omega arith
+kind_some declared_twice_fault = omega arith
+kind_some second_handler_fault = omega arith
 kind_some too_deep = omega arith
 kind_some unknown_name = omega arith
-kind_some noSuchCell = omega arith
-kind_some longSheet = omega arith
-kind_some shortBuffer = omega arith
-kind_some longText = omega arith
+kind_some no_such_cell_fault = omega arith
+kind_some long_sheet_fault = omega arith
+kind_some short_buffer_fault = omega arith
+kind_some long_text_fault = omega arith
 
 kind_of : ℕ → Kind
 kind_of n =
     pick (eqb n (fault_number outside)) outside
     (pick (eqb n (fault_number too_large)) too_large
     (pick (eqb n (fault_number off_scale)) off_scale
-    (pick (eqb n (fault_number tooMany)) tooMany
-    (pick (eqb n (fault_number declaredTwice)) declaredTwice
-    (pick (eqb n (fault_number secondHandler)) secondHandler
+    (pick (eqb n (fault_number too_many_fault)) too_many_fault
+    (pick (eqb n (fault_number declared_twice_fault)) declared_twice_fault
+    (pick (eqb n (fault_number second_handler_fault)) second_handler_fault
     (pick (eqb n (fault_number too_deep)) too_deep
     (pick (eqb n (fault_number unknown_name)) unknown_name
-    (pick (eqb n (fault_number noSuchCell)) noSuchCell
-    (pick (eqb n (fault_number longSheet)) longSheet
-    (pick (eqb n (fault_number shortBuffer)) shortBuffer longText))))))))))
+    (pick (eqb n (fault_number no_such_cell_fault)) no_such_cell_fault
+    (pick (eqb n (fault_number long_sheet_fault)) long_sheet_fault
+    (pick (eqb n (fault_number short_buffer_fault)) short_buffer_fault long_text_fault))))))))))
 
 kind_back : (k : Kind) → kind_of (fault_number k) ≡ k
 unfolding kind_of
 kind_back outside = refl
 kind_back too_large = refl
 kind_back off_scale = refl
-kind_back tooMany = refl
-kind_back declaredTwice = refl
-kind_back secondHandler = refl
+kind_back too_many_fault = refl
+kind_back declared_twice_fault = refl
+kind_back second_handler_fault = refl
 kind_back too_deep = refl
 kind_back unknown_name = refl
-kind_back noSuchCell = refl
-kind_back longSheet = refl
-kind_back shortBuffer = refl
-kind_back longText = refl
+kind_back no_such_cell_fault = refl
+kind_back long_sheet_fault = refl
+kind_back short_buffer_fault = refl
+kind_back long_text_fault = refl
 
 one_kind : (j k : Kind) → fault_number j ≡ fault_number k → j ≡ k
 one_kind j k e = sym (kind_back j) ∙ ap kind_of e ∙ kind_back k

@@ -11,7 +11,7 @@ use Rattle.source_language.specs.Tokens.{SheetToken, number, name, sign, reserve
 use Rattle.source_language.specs.Text.{TextConstant, Phrase, constant, named, cell, negation, operation, choice, Reaction, on, Body, passive, active, row, Parameter, TextEvent, TextBehaviour, behaviour, Text, text}
 use Rattle.source_language.specs.Faults.{Kind, OrFault, fault, fine, and_then}
 use Rattle.source_language.specs.Limits.{among, largest, phrase_nesting, after_all, with_parameter, with_event, with_reaction, NamesTaken, taken, with_behaviour}
-use Rattle.source_language.specs.Meaning.{NameMeaning, nothing, aParameter, aBehaviour, a_row, name_term, cell_term, term_of, clauses_of, item_of, entries_of}
+use Rattle.source_language.specs.Meaning.{NameMeaning, nothing, a_parameter, a_behaviour, a_row, name_term, cell_term, term_of, clauses_of, item_of, entries_of}
 use Rattle.source_language.specs.Scanner.{run_of_kind, beyond_run, FirstInText, short_mark, mark_at, long_word, first_in_text, scan_on, scanned_from, scanned_tokens, scan_text}
 use Rattle.source_language.specs.Reader.{Phrased, bad, got, then_phrase, token_place, place_at, sign_at, sign_in, tokens_after, past_sign, name_due, number_due, value_of, operator_within, with_operator, after_operand, cell_of, read_constant, read_negation, read_choice, signed_of, read_primary, from_operand, phrase_within, more_players, players_of, from_of, seen_of, many_of, default_of, parameter_of, event_declared, body_declared, reaction_of, passive_declared, state_of, row_declared, kind_declared, behaviour_declared, behaviour_begins, text_ends, ending, declarations_of, read_text}
 
@@ -313,14 +313,14 @@ module _ (long : ℕ) where
 
   name_within : (p : ℕ) → p ≤ long → (f : NameMeaning) → FaultWithin Any (name_term p f)
   name_within p h nothing = h
-  name_within p h (aParameter i) = tt
-  name_within p h (aBehaviour i) = tt
+  name_within p h (a_parameter i) = tt
+  name_within p h (a_behaviour i) = tt
   name_within p h (a_row i n) = tt
 
   cell_within : (c p q k : ℕ) → p ≤ long → q ≤ long → (f : NameMeaning) → FaultWithin Any (cell_term c p q k f)
   cell_within c p q k h g nothing = h
-  cell_within c p q k h g (aParameter i) = g
-  cell_within c p q k h g (aBehaviour i) = g
+  cell_within c p q k h g (a_parameter i) = g
+  cell_within c p q k h g (a_behaviour i) = g
   cell_within c p q k h g (a_row i n) =
       by_test (FaultWithin Any) (ltb k n) (λ e. by_test (FaultWithin Any) (eqb k 0 && eqb n c) (λ d. g) (λ d. tt)) (λ e. g)
 

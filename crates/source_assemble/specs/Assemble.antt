@@ -4,7 +4,7 @@ use Rattle.lib_base.specs.Basics.{pick, All}
 use Rattle.spec_language.specs.Limits.{behaviour_limit, sheet_bytes}
 use Rattle.text_formula.specs.Answer.{answered}
 use Rattle.source_language.specs.Text.{Text, text}
-use Rattle.source_language.specs.Faults.{longSheet, shortBuffer, OrFault, fault, fine}
+use Rattle.source_language.specs.Faults.{long_sheet_fault, short_buffer_fault, OrFault, fault, fine}
 use Rattle.source_language.specs.Meaning.{NameMeaning, meaning_of_name}
 use Rattle.source_language.specs.Answer.{line_from, column_from}
 use Rattle.source_coding.specs.Bounds.{name_limit, first_cells}
@@ -46,8 +46,8 @@ NamesResolved bytes find (fine (text ps es bs)) = (s : List ℕ) → find s ≡ 
 -- is too short", at the end of the text
 abbrev pub sheet_answer : List ℕ → ℕ → List ℕ → List ℕ → ℕ × List ℕ
 sheet_answer bytes n out buffer =
-    pick (ltb 8192 n) (answered (fault_numbered bytes (fault_word longSheet (length bytes))) buffer)
-    (pick (ltb (length buffer) n) (answered (fault_numbered bytes (fault_word shortBuffer (length bytes))) buffer)
+    pick (ltb 8192 n) (answered (fault_numbered bytes (fault_word long_sheet_fault (length bytes))) buffer)
+    (pick (ltb (length buffer) n) (answered (fault_numbered bytes (fault_word short_buffer_fault (length bytes))) buffer)
     (answered (4294967296 + n) (take n out ++ drop n buffer)))
 
 -- what a reading found that had the right names is the answer: the end of the sheet's bytes, and a name's first fault

@@ -5,7 +5,7 @@ use denote.Enum.Declared.{tag_of}
 use Rattle.lib_base.specs.Basics.{pick}
 use Rattle.source_language.specs.Tokens.{SheetToken, number, name, sign, bracket, unbracket, passive_word, row_word, end_sign}
 use Rattle.source_language.specs.Text.{Text}
-use Rattle.source_language.specs.Faults.{outside, off_scale, tooMany}
+use Rattle.source_language.specs.Faults.{outside, off_scale, too_many_fault}
 use Rattle.source_language.specs.Limits.{among, largest}
 use Rattle.source_language.specs.Reader.{bad, got, place_at, sign_at, sign_in, number_due, behaviour_begins, text_ends}
 use Rattle.source_coding.specs.FaultWords.{fault_word, fault_in}
@@ -49,7 +49,7 @@ closed_found text at q p v next h = rw (past_there unbracket q (got v) (tokens_f
 
 module _ (text : List ℕ) (at i : ℕ) where
   pub count_missing : (w : ℕ) → FaultTold (number_due largest (λ p n us. got n us) (tokens_from text at)) w → DueRead CountIs text (Fault w) (counted_cells i (tokens_from text at))
-  count_missing w h = let k = number_fails text at largest (λ p n us. pick (ltb n 2 || ltb 16 n) (bad off_scale p) (pick (ltb 64 (i + n)) (bad tooMany p) (closed_cells n us))) w h in
+  count_missing w h = let k = number_fails text at largest (λ p n us. pick (ltb n 2 || ltb 16 n) (bad off_scale p) (pick (ltb 64 (i + n)) (bad too_many_fault p) (closed_cells n us))) w h in
       rw k.turned k.word
 
   module _ (p v next : ℕ) (there : tokens_from text at ≡ number p v ∷ tokens_from text next) (fits : v ≤ largest) where

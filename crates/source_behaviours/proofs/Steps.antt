@@ -5,7 +5,7 @@ use Rattle.lib_base.specs.Basics.{pick}
 use Rattle.lib_base.proofs.Tools.{by_test, split, none_of}
 use Rattle.source_language.specs.Tokens.{SheetToken, number, name, sign, bracket, unbracket, passive_word, row_word}
 use Rattle.source_language.specs.Text.{active, row, TextBehaviour}
-use Rattle.source_language.specs.Faults.{outside, too_large, off_scale, tooMany, declaredTwice}
+use Rattle.source_language.specs.Faults.{outside, too_large, off_scale, too_many_fault, declared_twice_fault}
 use Rattle.source_language.specs.Limits.{among, largest, NamesTaken, taken}
 use Rattle.source_language.specs.Reader.{Phrased, bad, got, then_phrase, place_at, sign_at, tokens_after, past_sign, name_due, number_due, state_of, row_declared, kind_declared, behaviour_declared}
 use Rattle.source_declarations.proofs.Many.{Leaves}
@@ -28,14 +28,14 @@ module _ (es : List (List ℕ)) (i : ℕ) (s : List ℕ) where
       rw (then_sign made_of unbracket (got n) us, e)
 
   counted_steps : (ts : List SheetToken)
-      → number_due largest (λ p n us. pick (ltb n 2 || ltb 16 n) (bad off_scale p) (pick (ltb 64 (i + n)) (bad tooMany p) (past_sign unbracket (state_of es s (row n)) us))) ts
+      → number_due largest (λ p n us. pick (ltb n 2 || ltb 16 n) (bad off_scale p) (pick (ltb 64 (i + n)) (bad too_many_fault p) (past_sign unbracket (state_of es s (row n)) us))) ts
       ≡ then_phrase (counted_cells i ts) made_of
   counted_steps [] = refl
   counted_steps (number p n ∷ us) =
       rw (
-        then_pick made_of (ltb largest n) (bad too_large p) (pick (ltb n 2 || ltb 16 n) (bad off_scale p) (pick (ltb 64 (i + n)) (bad tooMany p) (closed_cells n us))),
-        then_pick made_of (ltb n 2 || ltb 16 n) (bad off_scale p) (pick (ltb 64 (i + n)) (bad tooMany p) (closed_cells n us)),
-        then_pick made_of (ltb 64 (i + n)) (bad tooMany p) (closed_cells n us),
+        then_pick made_of (ltb largest n) (bad too_large p) (pick (ltb n 2 || ltb 16 n) (bad off_scale p) (pick (ltb 64 (i + n)) (bad too_many_fault p) (closed_cells n us))),
+        then_pick made_of (ltb n 2 || ltb 16 n) (bad off_scale p) (pick (ltb 64 (i + n)) (bad too_many_fault p) (closed_cells n us)),
+        then_pick made_of (ltb 64 (i + n)) (bad too_many_fault p) (closed_cells n us),
       )
       (ap (pick (ltb largest n) (bad too_large p))
       (split (ltb n 2 || ltb 16 n) (λ e. rw e) (λ e. rw (e, is_row n us e))))
@@ -60,10 +60,10 @@ unfolding behaviour_declared
 name_steps es ns i q c ts h = rw h (named ts)
   where
     named : (ts : List SheetToken)
-        → name_due (λ p s us. pick (among s ns) (bad declaredTwice p) (kind_declared es i c s us)) ts ≡ then_phrase (new_name ns ts) (λ s us. kind_declared es i c s us)
+        → name_due (λ p s us. pick (among s ns) (bad declared_twice_fault p) (kind_declared es i c s us)) ts ≡ then_phrase (new_name ns ts) (λ s us. kind_declared es i c s us)
     named [] = refl
     named (number p n ∷ us) = refl
-    named (name p s ∷ us) = sym (then_pick (λ s us. kind_declared es i c s us) (among s ns) (bad declaredTwice p) (got s us))
+    named (name p s ∷ us) = sym (then_pick (λ s us. kind_declared es i c s us) (among s ns) (bad declared_twice_fault p) (got s us))
     named (sign p d ∷ us) = refl
 
 -- ---- a behaviour takes a token

@@ -5,7 +5,7 @@ use Rattle.spec_language.specs.Sheet.{Entry}
 use Rattle.spec_language.specs.Grammar.{encode_behaviours}
 use Rattle.source_language.specs.Tokens.{SheetToken, sign, bracket, unbracket, row_word}
 use Rattle.source_language.specs.Text.{passive, active, row, TextEvent, TextBehaviour, behaviour, Text}
-use Rattle.source_language.specs.Faults.{off_scale, tooMany, declaredTwice}
+use Rattle.source_language.specs.Faults.{off_scale, too_many_fault, declared_twice_fault}
 use Rattle.source_language.specs.Limits.{among, largest, body_cells, after_all, with_event, taken, with_behaviour}
 use Rattle.source_language.specs.Meaning.{NameMeaning, entries_of}
 use Rattle.source_language.specs.Reader.{Phrased, bad, got, sign_at, past_sign, name_due, number_due, many_of, behaviour_declared, behaviour_begins, text_ends}
@@ -38,7 +38,7 @@ module _ (es : List TextEvent) (find : List ℕ → NameMeaning) where
 
 -- a name that is not taken
 abbrev pub new_name : List (List ℕ) → List SheetToken → Phrased (List ℕ)
-new_name ns ts = name_due (λ p s us. pick (among s ns) (bad declaredTwice p) (got s us)) ts
+new_name ns ts = name_due (λ p s us. pick (among s ns) (bad declared_twice_fault p) (got s us)) ts
 
 -- a row's count, from its end to its beginning; and 0 for another behaviour
 abbrev pub closed_cells : ℕ → List SheetToken → Phrased ℕ
@@ -48,7 +48,7 @@ abbrev pub counted_cells : ℕ → List SheetToken → Phrased ℕ
 counted_cells i ts =
     number_due largest (λ p n us.
     pick (ltb n 2 || ltb 16 n) (bad off_scale p)
-    (pick (ltb 64 (i + n)) (bad tooMany p)
+    (pick (ltb 64 (i + n)) (bad too_many_fault p)
     (closed_cells n us))) ts
 
 abbrev pub cells_said : ℕ → ℕ → List SheetToken → Phrased ℕ

@@ -1,13 +1,13 @@
 -- The numbers of faults and of assemble's answers as docs/SHEETS.md has them, by computation: a number that is wrong in
 -- the definition and in the code alike would not be these.
 use Rattle.lib_base.proofs.Prelude.{◌≡◌, refl, List, [], ◌∷◌, map}
-use Rattle.source_language.specs.Faults.{Kind, outside, too_large, off_scale, tooMany, declaredTwice, secondHandler, too_deep, unknown_name, noSuchCell, longSheet, shortBuffer, longText}
+use Rattle.source_language.specs.Faults.{Kind, outside, too_large, off_scale, too_many_fault, declared_twice_fault, second_handler_fault, too_deep, unknown_name, no_such_cell_fault, long_sheet_fault, short_buffer_fault, long_text_fault}
 use Rattle.source_language.specs.Answer.{written, turned_down}
 use Rattle.source_coding.specs.Faults.{fault_number, outcome_number}
 
 abbrev every_kind : List Kind
 every_kind =
-    outside ∷ too_large ∷ off_scale ∷ tooMany ∷ declaredTwice ∷ secondHandler ∷ too_deep ∷ unknown_name ∷ noSuchCell ∷ longSheet ∷ shortBuffer ∷ longText ∷ []
+    outside ∷ too_large ∷ off_scale ∷ too_many_fault ∷ declared_twice_fault ∷ second_handler_fault ∷ too_deep ∷ unknown_name ∷ no_such_cell_fault ∷ long_sheet_fault ∷ short_buffer_fault ∷ long_text_fault ∷ []
 
 pub numbers_of_kinds : map fault_number every_kind ≡ (31 ∷ 32 ∷ 33 ∷ 34 ∷ 35 ∷ 36 ∷ 37 ∷ 38 ∷ 39 ∷ 40 ∷ 41 ∷ 42 ∷ [])
 numbers_of_kinds = refl

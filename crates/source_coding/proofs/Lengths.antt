@@ -8,7 +8,7 @@ use Rattle.spec_language.specs.Reading.{sheet}
 use Rattle.spec_language.specs.Grammar.{encode, encode_expr, encode_handlers, encode_item, encode_viewer, encode_behaviours, encode_sender, encode_events}
 use Rattle.source_language.specs.Text.{Phrase, constant, named, cell, negation, operation, choice, Reaction, on, Body, passive, active, row, Parameter, TextEvent, event, TextBehaviour, behaviour, text}
 use Rattle.source_language.specs.Faults.{OrFault, fault, fine, and_then}
-use Rattle.source_language.specs.Meaning.{rights_of, NameMeaning, nothing, aParameter, aBehaviour, a_row, name_term, cell_term, term_of, clauses_of, item_of, entries_of, signal_of}
+use Rattle.source_language.specs.Meaning.{rights_of, NameMeaning, nothing, a_parameter, a_behaviour, a_row, name_term, cell_term, term_of, clauses_of, item_of, entries_of, signal_of}
 use Rattle.source_coding.specs.Sizes.{phrase_size, reactions_size, body_size, viewer_size, sender_size, behaviours_size, events_size, text_size}
 
 -- a result whose encoding has n bytes; nothing is said of a fault
@@ -26,8 +26,8 @@ on_takes f g m n h k (fine x) t = k x t
 name_takes : (p : ℕ) (f : NameMeaning) → Takes encode_expr 4 (name_term p f)
 unfolding encode_expr
 name_takes p nothing = tt
-name_takes p (aParameter i) = refl
-name_takes p (aBehaviour i) = refl
+name_takes p (a_parameter i) = refl
+name_takes p (a_behaviour i) = refl
 name_takes p (a_row i n) = refl
 
 variable_takes : (i : ℕ) → Takes encode_expr 4 (fine (variable i))
@@ -36,8 +36,8 @@ variable_takes i = refl
 
 cell_takes : (c p q k : ℕ) (f : NameMeaning) → Takes encode_expr 4 (cell_term c p q k f)
 cell_takes c p q k nothing = tt
-cell_takes c p q k (aParameter i) = tt
-cell_takes c p q k (aBehaviour i) = tt
+cell_takes c p q k (a_parameter i) = tt
+cell_takes c p q k (a_behaviour i) = tt
 cell_takes c p q k (a_row i n) =
     by_test (Takes encode_expr 4) (ltb k n)
     (λ e. by_test (Takes encode_expr 4) (eqb k 0 && eqb n c) (λ d. tt) (λ d. variable_takes (i + k)))

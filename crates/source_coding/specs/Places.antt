@@ -4,7 +4,7 @@ use Rattle.std.specs.Prelude.{ℕ, zero, suc, ◌-◌, List, [], ◌∷◌, leng
 use Rattle.lib_base.specs.Basics.{pick}
 use Rattle.source_language.specs.Tokens.{SheetToken, same, in_word}
 use Rattle.source_language.specs.Scanner.{run_of_kind, scanned_tokens}
-use Rattle.source_language.specs.Meaning.{NameMeaning, nothing, aParameter, aBehaviour, a_row}
+use Rattle.source_language.specs.Meaning.{NameMeaning, nothing, a_parameter, a_behaviour, a_row}
 
 -- from place 0 on they are all that `scan_text` finds
 unfoldable pub tokens_from : List ℕ → ℕ → List SheetToken
@@ -25,13 +25,13 @@ index_in text (p ∷ ps) s = pick (same s (name_at text p)) zero (suc (index_in 
 
 -- a behaviour by its number, or a row by its first cell and its count
 abbrev pub behaviour_or_row : ℕ → ℕ → NameMeaning
-behaviour_or_row i c = pick (ltb c 2) (aBehaviour i) (a_row i c)
+behaviour_or_row i c = pick (ltb c 2) (a_behaviour i) (a_row i c)
 
 -- what the j-th name means where the first of them are parameters, and `firsts` has the number of each behaviour's
 -- first cell, and last the number of all
 abbrev pub meaning_at : ℕ → List ℕ → ℕ → NameMeaning
 meaning_at params firsts j =
-    pick (ltb j params) (aParameter j) (behaviour_or_row (get_or firsts (j - params) 0) (get_or firsts (suc (j - params)) 0 - get_or firsts (j - params) 0))
+    pick (ltb j params) (a_parameter j) (behaviour_or_row (get_or firsts (j - params) 0) (get_or firsts (suc (j - params)) 0 - get_or firsts (j - params) 0))
 
 unfoldable pub meaning_in : List ℕ → List ℕ → ℕ → List ℕ → List ℕ → NameMeaning
 meaning_in text places params firsts s =

@@ -5,7 +5,7 @@ use Rattle.lib_base.specs.Basics.{pick}
 use Rattle.lib_base.proofs.Tools.{by_test}
 use Rattle.source_language.specs.Tokens.{SheetToken, number, name, sign, equals, rank_word, from_word, by_word, nobody_word, seen_word}
 use Rattle.source_language.specs.Text.{plus, minus, parameter, event}
-use Rattle.source_language.specs.Faults.{off_scale, declaredTwice}
+use Rattle.source_language.specs.Faults.{off_scale, declared_twice_fault}
 use Rattle.source_language.specs.Limits.{among, largest}
 use Rattle.source_language.specs.Reader.{Phrased, bad, got, then_phrase, sign_at, tokens_after, past_sign, name_due, number_due, value_of, more_players, players_of, from_of, seen_of, default_of, parameter_of, event_declared}
 use Rattle.source_declarations.proofs.Many.{Leaves, leaves_then}
@@ -92,7 +92,7 @@ pub leaves_parameter : (ns : List (List ℕ)) (ts : List SheetToken) → Leaves 
 unfolding parameter_of
 leaves_parameter ns ts =
     by_test (Leaves (length ts)) (leb 8 (length ns)) (λ e. tt) (λ e.
-    leaves_name (length ts) (λ p s us. pick (among s ns) (bad declaredTwice p) (default_of s us)) (tokens_after ts) (λ p s us h.
+    leaves_name (length ts) (λ p s us. pick (among s ns) (bad declared_twice_fault p) (default_of s us)) (tokens_after ts) (λ p s us h.
     by_test (Leaves (length ts)) (among s ns) (λ d. tt)
     (λ d. leaves_more_room (suc (length us)) (length ts) (default_of s us) (omega (arith, after_shorter ts)) (leaves_default s us))))
 

@@ -4,7 +4,7 @@ use Rattle.lib_base.specs.Basics.{pick}
 use Rattle.spec_language.specs.Sheet.{Sheet}
 use Rattle.spec_language.specs.Reading.{Got, bad, got, read_sheet}
 use Rattle.text_formula.specs.Answer.{answered}
-use Rattle.source_language.specs.Faults.{shortBuffer}
+use Rattle.source_language.specs.Faults.{short_buffer_fault}
 use Rattle.source_coding.specs.Faults.{fault_number}
 use Rattle.source_rendering.specs.Describe.{described}
 use Rattle.back_compile.specs.Number.{number_on}
@@ -13,7 +13,7 @@ use Rattle.back_compile.specs.Number.{number_on}
 -- short
 abbrev pub text_delivered : List ℕ → List ℕ → ℕ × List ℕ
 text_delivered text buffer =
-    pick (ltb (length buffer) (length text)) (answered (fault_number shortBuffer) buffer)
+    pick (ltb (length buffer) (length text)) (answered (fault_number short_buffer_fault) buffer)
     (answered (4294967296 + length text) (text ++ drop (length text) buffer))
 
 abbrev pub read_described : Got Sheet → List ℕ → ℕ × List ℕ

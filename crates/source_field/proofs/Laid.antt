@@ -9,8 +9,8 @@ use Rattle.spec_language.specs.Grammar.{field, encode_expr}
 use Rattle.sheet_write.specs.Writes.{fitted, as_application}
 use Rattle.sheet_write.proofs.Laws.{fitted_taken, applied_taken}
 use Rattle.source_language.specs.Text.{Phrase, constant, named, cell, negation, operation, choice}
-use Rattle.source_language.specs.Faults.{Kind, outside, too_large, off_scale, tooMany, declaredTwice, secondHandler, too_deep, unknown_name, noSuchCell, longSheet, shortBuffer, longText, OrFault, fault, fine, and_then}
-use Rattle.source_language.specs.Meaning.{NameMeaning, nothing, aParameter, aBehaviour, a_row, name_term, cell_term, term_of}
+use Rattle.source_language.specs.Faults.{Kind, outside, too_large, off_scale, too_many_fault, declared_twice_fault, second_handler_fault, too_deep, unknown_name, no_such_cell_fault, long_sheet_fault, short_buffer_fault, long_text_fault, OrFault, fault, fine, and_then}
+use Rattle.source_language.specs.Meaning.{NameMeaning, nothing, a_parameter, a_behaviour, a_row, name_term, cell_term, term_of}
 use Rattle.source_coding.specs.Faults.{fault_number}
 use Rattle.source_coding.specs.FaultWords.{fault_word, fault_in, first_fault}
 use Rattle.source_coding.specs.Sizes.{phrase_size}
@@ -21,15 +21,15 @@ kind_large : (k : Kind) → 31 ≤ fault_number k
 kind_large outside = omega arith
 kind_large too_large = omega arith
 kind_large off_scale = omega arith
-kind_large tooMany = omega arith
-kind_large declaredTwice = omega arith
-kind_large secondHandler = omega arith
+kind_large too_many_fault = omega arith
+kind_large declared_twice_fault = omega arith
+kind_large second_handler_fault = omega arith
 kind_large too_deep = omega arith
 kind_large unknown_name = omega arith
-kind_large noSuchCell = omega arith
-kind_large longSheet = omega arith
-kind_large shortBuffer = omega arith
-kind_large longText = omega arith
+kind_large no_such_cell_fault = omega arith
+kind_large long_sheet_fault = omega arith
+kind_large short_buffer_fault = omega arith
+kind_large long_text_fault = omega arith
 
 first_of : (k : Kind) (p w : ℕ) → first_fault (fault_word k p) w ≡ fault_word k p
 first_of k p w = let h = kind_large k in rw (ne_eqb (fault_word k p) 0 (λ e. omega arith))
@@ -182,15 +182,15 @@ module _ (find : List ℕ → NameMeaning) (c : ℕ) where
   sized_name : (p : ℕ) (m : NameMeaning) → Sized (and_then (name_term p m) (λ t. fine (encode_expr t))) 4
   unfolding encode_expr
   sized_name p nothing v e = absurd (fault≢fine e)
-  sized_name p (aParameter i) v e = ap length (sym (fine_same e))
-  sized_name p (aBehaviour i) v e = ap length (sym (fine_same e))
+  sized_name p (a_parameter i) v e = ap length (sym (fine_same e))
+  sized_name p (a_behaviour i) v e = ap length (sym (fine_same e))
   sized_name p (a_row i n) v e = ap length (sym (fine_same e))
 
   sized_cell : (p q k : ℕ) (m : NameMeaning) → Sized (and_then (cell_term c p q k m) (λ t. fine (encode_expr t))) 4
   unfolding encode_expr
   sized_cell p q k nothing = λ v e. absurd (fault≢fine e)
-  sized_cell p q k (aParameter i) = λ v e. absurd (fault≢fine e)
-  sized_cell p q k (aBehaviour i) = λ v e. absurd (fault≢fine e)
+  sized_cell p q k (a_parameter i) = λ v e. absurd (fault≢fine e)
+  sized_cell p q k (a_behaviour i) = λ v e. absurd (fault≢fine e)
   sized_cell p q k (a_row i n) =
       by_test (λ (x : OrFault Term). Sized (and_then x (λ t. fine (encode_expr t))) 4) (ltb k n)
       (λ g. by_test (λ (x : OrFault Term). Sized (and_then x (λ t. fine (encode_expr t))) 4) (eqb k 0 && eqb n c)

@@ -1,7 +1,7 @@
 -- The first fault of names over the parts of a list, from left to right: a fault's word is never 0, so that the first
 -- word that is not tells it.
 use Rattle.lib_base.proofs.Prelude.{ℕ, ◌<◌, ◌≡◌, refl, false, List, [], ◌∷◌, ◌++◌, eqb, ne_eqb, arith}
-use Rattle.source_language.specs.Faults.{Kind, outside, too_large, off_scale, tooMany, declaredTwice, secondHandler, too_deep, unknown_name, noSuchCell, longSheet, shortBuffer, longText, OrFault, fault, fine, and_then}
+use Rattle.source_language.specs.Faults.{Kind, outside, too_large, off_scale, too_many_fault, declared_twice_fault, second_handler_fault, too_deep, unknown_name, no_such_cell_fault, long_sheet_fault, short_buffer_fault, long_text_fault, OrFault, fault, fine, and_then}
 use Rattle.source_coding.specs.Faults.{fault_number}
 use Rattle.source_coding.specs.FaultWords.{fault_word, fault_in, first_fault}
 
@@ -9,15 +9,15 @@ kind_above : (k : Kind) → 0 < fault_number k
 kind_above outside = omega arith
 kind_above too_large = omega arith
 kind_above off_scale = omega arith
-kind_above tooMany = omega arith
-kind_above declaredTwice = omega arith
-kind_above secondHandler = omega arith
+kind_above too_many_fault = omega arith
+kind_above declared_twice_fault = omega arith
+kind_above second_handler_fault = omega arith
 kind_above too_deep = omega arith
 kind_above unknown_name = omega arith
-kind_above noSuchCell = omega arith
-kind_above longSheet = omega arith
-kind_above shortBuffer = omega arith
-kind_above longText = omega arith
+kind_above no_such_cell_fault = omega arith
+kind_above long_sheet_fault = omega arith
+kind_above short_buffer_fault = omega arith
+kind_above long_text_fault = omega arith
 
 word_told : (k : Kind) (p : ℕ) → eqb (fault_word k p) 0 ≡ false
 word_told k p = ne_eqb (fault_word k p) 0 (omega (arith, kind_above k))

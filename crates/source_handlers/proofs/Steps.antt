@@ -6,7 +6,7 @@ use Rattle.lib_base.proofs.Tools.{by_test}
 use Rattle.spec_language.specs.Syntax.{Phase, immediate, later}
 use Rattle.source_language.specs.Tokens.{SheetToken, number, name, sign, colon, later_word}
 use Rattle.source_language.specs.Text.{Reaction, on}
-use Rattle.source_language.specs.Faults.{outside, secondHandler, unknown_name}
+use Rattle.source_language.specs.Faults.{outside, second_handler_fault, unknown_name}
 use Rattle.source_language.specs.Limits.{among}
 use Rattle.source_language.specs.Reader.{Phrased, bad, got, then_phrase, place_at, sign_at, tokens_after, past_sign, name_due, formula_of, body_declared, reaction_of}
 use Rattle.source_declarations.proofs.Many.{Leaves, leaves_then}
@@ -26,13 +26,13 @@ module _ {A B : Type 0} (h : A → List SheetToken → Phrased B) where
 
 module _ (es ns : List (List ℕ)) where
   event_first : (ts : List SheetToken)
-      → name_due (λ p s us. pick (among s ns) (bad secondHandler p) (pick (among s es) (reaction_body s us) (bad unknown_name p))) ts
+      → name_due (λ p s us. pick (among s ns) (bad second_handler_fault p) (pick (among s es) (reaction_body s us) (bad unknown_name p))) ts
       ≡ then_phrase (handler_event es ns ts) reaction_body
   event_first [] = refl
   event_first (number p n ∷ ts) = refl
   event_first (name p s ∷ ts) =
       rw (
-        then_pick reaction_body (among s ns) (bad secondHandler p) (pick (among s es) (got s ts) (bad unknown_name p)),
+        then_pick reaction_body (among s ns) (bad second_handler_fault p) (pick (among s es) (got s ts) (bad unknown_name p)),
         then_pick reaction_body (among s es) (got s ts) (bad unknown_name p),
       )
   event_first (sign p c ∷ ts) = refl

@@ -6,7 +6,7 @@ use Rattle.spec_language.specs.Sheet.{Clause, clause}
 use Rattle.spec_language.specs.Grammar.{encode_phase, encode_handler, encode_handlers}
 use Rattle.source_language.specs.Tokens.{SheetToken, colon, later_word}
 use Rattle.source_language.specs.Text.{Reaction, on, TextEvent}
-use Rattle.source_language.specs.Faults.{secondHandler, unknown_name, OrFault, fine, and_then}
+use Rattle.source_language.specs.Faults.{second_handler_fault, unknown_name, OrFault, fine, and_then}
 use Rattle.source_language.specs.Limits.{among, after_all, with_event}
 use Rattle.source_language.specs.Meaning.{NameMeaning, event_named, term_of, clauses_of}
 use Rattle.source_language.specs.Reader.{Phrased, bad, got, sign_at, tokens_after, past_sign, name_due, body_declared, read_reactions}
@@ -37,7 +37,7 @@ module _ (es : List TextEvent) (find : List ℕ → NameMeaning) (c : ℕ) where
 
 -- the event's name, of which ns have handlers already
 abbrev pub handler_event : List (List ℕ) → List (List ℕ) → List SheetToken → Phrased (List ℕ)
-handler_event es ns ts = name_due (λ p s us. pick (among s ns) (bad secondHandler p) (pick (among s es) (got s us) (bad unknown_name p))) ts
+handler_event es ns ts = name_due (λ p s us. pick (among s ns) (bad second_handler_fault p) (pick (among s es) (got s us) (bad unknown_name p))) ts
 
 abbrev pub phase_declared : List SheetToken → Phrased Phase
 phase_declared ts = pick (eqb (sign_at ts) later_word) (past_sign colon (got later) (tokens_after ts)) (past_sign colon (got immediate) ts)

@@ -7,7 +7,7 @@ use Rattle.spec_language.specs.Sheet.{Sheet, fill}
 use Rattle.spec_language.specs.Grammar.{encode, SheetFits}
 use Rattle.spec_language.specs.Accepted.{Known}
 use Rattle.source_language.specs.Text.{Text}
-use Rattle.source_language.specs.Faults.{Kind, longText, longSheet, shortBuffer, OrFault, fault, fine, and_then}
+use Rattle.source_language.specs.Faults.{Kind, long_text_fault, long_sheet_fault, short_buffer_fault, OrFault, fault, fine, and_then}
 use Rattle.source_language.specs.Grammar.{TextSays}
 use Rattle.source_language.specs.Meaning.{sheet_of}
 use Rattle.source_language.specs.Renaming.{KeepsApart, text_as}
@@ -36,17 +36,17 @@ unfolding assemble_on
 within bytes buffer s m h r =
     rw (judged bytes s (length buffer) m, le-ltb 8192 (length (encode s)) h, le-ltb (length buffer) (length (encode s)) r)
 
-pub too_long_sheet : (bytes buffer : List ℕ) (s : Sheet) → TextMeans bytes s → 8192 < length (encode s) → assemble_on bytes buffer ≡ refused_at longSheet (length bytes) bytes buffer
+pub too_long_sheet : (bytes buffer : List ℕ) (s : Sheet) → TextMeans bytes s → 8192 < length (encode s) → assemble_on bytes buffer ≡ refused_at long_sheet_fault (length bytes) bytes buffer
 unfolding assemble_on
 too_long_sheet bytes buffer s m h = rw (judged bytes s (length buffer) m, lt-ltb 8192 (length (encode s)) h)
 
 pub too_short : (bytes buffer : List ℕ) (s : Sheet) → TextMeans bytes s → length (encode s) ≤ 8192 → length buffer < length (encode s)
-    → assemble_on bytes buffer ≡ refused_at shortBuffer (length bytes) bytes buffer
+    → assemble_on bytes buffer ≡ refused_at short_buffer_fault (length bytes) bytes buffer
 unfolding assemble_on
 too_short bytes buffer s m h r =
     rw (judged bytes s (length buffer) m, le-ltb 8192 (length (encode s)) h, lt-ltb (length buffer) (length (encode s)) r)
 
-pub too_long_text : (bytes buffer : List ℕ) → 65536 < length bytes → assemble_on bytes buffer ≡ refused_at longText 65536 bytes buffer
+pub too_long_text : (bytes buffer : List ℕ) → 65536 < length bytes → assemble_on bytes buffer ≡ refused_at long_text_fault 65536 bytes buffer
 unfolding assemble_on assembled
 too_long_text bytes buffer h = rw (lt-ltb 65536 (length bytes) h)
 

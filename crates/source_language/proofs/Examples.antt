@@ -12,7 +12,7 @@ use Rattle.source_language.specs.Tokens.{number, sign, Spelling, spelled, end_si
 use Rattle.source_language.specs.Text.{plus, minus, named, cell, on}
 use Rattle.source_language.specs.Grammar.{IsValue, v_minus}
 use Rattle.source_language.specs.Renaming.{phrase_as, reactions_as}
-use Rattle.source_language.specs.Faults.{fine, fault, outside, too_large, off_scale, tooMany, declaredTwice, secondHandler, too_deep, unknown_name, noSuchCell, longSheet, shortBuffer, longText}
+use Rattle.source_language.specs.Faults.{fine, fault, outside, too_large, off_scale, too_many_fault, declared_twice_fault, second_handler_fault, too_deep, unknown_name, no_such_cell_fault, long_sheet_fault, short_buffer_fault, long_text_fault}
 use Rattle.source_language.specs.Limits.{ConstantFits, among, phrase_nesting, after_all}
 use Rattle.source_language.specs.Meaning.{among_players, bits_below, behaviour_named, meaning_of_name, event_named, term_of, clauses_of, entries_of, sheet_of}
 use Rattle.source_language.specs.Scanner.{run_of_kind, beyond_run, first_in_text, scanned_tokens}
@@ -257,10 +257,10 @@ off_scale_law = (refl, refl, refl, refl)
 --   row r0[16]=0 row r1[16]=0 row r2[16]=0 row a[15]=0 row b[2]=0  ('tooMany', 57)
 --   row r0[16]=0 row r1[16]=0 row r2[16]=0 row r3[16]=0 row 1  ('tooMany', 52)
 --   event e0 rank 1 event e1 rank 1 event e2 rank 1 event e3 rank 1 event e4 rank 1 event e5 rank 1 event e6 rank 1 e
-pub too_many : (assembled (112 ∷ 97 ∷ 114 ∷ 97 ∷ 109 ∷ 32 ∷ 112 ∷ 48 ∷ 32 ∷ 112 ∷ 97 ∷ 114 ∷ 97 ∷ 109 ∷ 32 ∷ 112 ∷ 49 ∷ 32 ∷ 112 ∷ 97 ∷ 114 ∷ 97 ∷ 109 ∷ 32 ∷ 112 ∷ 50 ∷ 32 ∷ 112 ∷ 97 ∷ 114 ∷ 97 ∷ 109 ∷ 32 ∷ 112 ∷ 51 ∷ 32 ∷ 112 ∷ 97 ∷ 114 ∷ 97 ∷ 109 ∷ 32 ∷ 112 ∷ 52 ∷ 32 ∷ 112 ∷ 97 ∷ 114 ∷ 97 ∷ 109 ∷ 32 ∷ 112 ∷ 53 ∷ 32 ∷ 112 ∷ 97 ∷ 114 ∷ 97 ∷ 109 ∷ 32 ∷ 112 ∷ 54 ∷ 32 ∷ 112 ∷ 97 ∷ 114 ∷ 97 ∷ 109 ∷ 32 ∷ 112 ∷ 55 ∷ 32 ∷ 112 ∷ 97 ∷ 114 ∷ 97 ∷ 109 ∷ 32 ∷ 112 ∷ 56 ∷ 32 ∷ []) 8192 ≡ fault tooMany 72)
-    × (assembled (114 ∷ 111 ∷ 119 ∷ 32 ∷ 114 ∷ 48 ∷ 91 ∷ 49 ∷ 54 ∷ 93 ∷ 61 ∷ 48 ∷ 32 ∷ 114 ∷ 111 ∷ 119 ∷ 32 ∷ 114 ∷ 49 ∷ 91 ∷ 49 ∷ 54 ∷ 93 ∷ 61 ∷ 48 ∷ 32 ∷ 114 ∷ 111 ∷ 119 ∷ 32 ∷ 114 ∷ 50 ∷ 91 ∷ 49 ∷ 54 ∷ 93 ∷ 61 ∷ 48 ∷ 32 ∷ 114 ∷ 111 ∷ 119 ∷ 32 ∷ 97 ∷ 91 ∷ 49 ∷ 53 ∷ 93 ∷ 61 ∷ 48 ∷ 32 ∷ 114 ∷ 111 ∷ 119 ∷ 32 ∷ 98 ∷ 91 ∷ 50 ∷ 93 ∷ 61 ∷ 48 ∷ []) 8192 ≡ fault tooMany 57)
-    × (assembled (114 ∷ 111 ∷ 119 ∷ 32 ∷ 114 ∷ 48 ∷ 91 ∷ 49 ∷ 54 ∷ 93 ∷ 61 ∷ 48 ∷ 32 ∷ 114 ∷ 111 ∷ 119 ∷ 32 ∷ 114 ∷ 49 ∷ 91 ∷ 49 ∷ 54 ∷ 93 ∷ 61 ∷ 48 ∷ 32 ∷ 114 ∷ 111 ∷ 119 ∷ 32 ∷ 114 ∷ 50 ∷ 91 ∷ 49 ∷ 54 ∷ 93 ∷ 61 ∷ 48 ∷ 32 ∷ 114 ∷ 111 ∷ 119 ∷ 32 ∷ 114 ∷ 51 ∷ 91 ∷ 49 ∷ 54 ∷ 93 ∷ 61 ∷ 48 ∷ 32 ∷ 114 ∷ 111 ∷ 119 ∷ 32 ∷ 49 ∷ []) 8192 ≡ fault tooMany 52)
-    × (assembled (101 ∷ 118 ∷ 101 ∷ 110 ∷ 116 ∷ 32 ∷ 101 ∷ 48 ∷ 32 ∷ 114 ∷ 97 ∷ 110 ∷ 107 ∷ 32 ∷ 49 ∷ 32 ∷ 101 ∷ 118 ∷ 101 ∷ 110 ∷ 116 ∷ 32 ∷ 101 ∷ 49 ∷ 32 ∷ 114 ∷ 97 ∷ 110 ∷ 107 ∷ 32 ∷ 49 ∷ 32 ∷ 101 ∷ 118 ∷ 101 ∷ 110 ∷ 116 ∷ 32 ∷ 101 ∷ 50 ∷ 32 ∷ 114 ∷ 97 ∷ 110 ∷ 107 ∷ 32 ∷ 49 ∷ 32 ∷ 101 ∷ 118 ∷ 101 ∷ 110 ∷ 116 ∷ 32 ∷ 101 ∷ 51 ∷ 32 ∷ 114 ∷ 97 ∷ 110 ∷ 107 ∷ 32 ∷ 49 ∷ 32 ∷ 101 ∷ 118 ∷ 101 ∷ 110 ∷ 116 ∷ 32 ∷ 101 ∷ 52 ∷ 32 ∷ 114 ∷ 97 ∷ 110 ∷ 107 ∷ 32 ∷ 49 ∷ 32 ∷ 101 ∷ 118 ∷ 101 ∷ 110 ∷ 116 ∷ 32 ∷ 101 ∷ 53 ∷ 32 ∷ 114 ∷ 97 ∷ 110 ∷ 107 ∷ 32 ∷ 49 ∷ 32 ∷ 101 ∷ 118 ∷ 101 ∷ 110 ∷ 116 ∷ 32 ∷ 101 ∷ 54 ∷ 32 ∷ 114 ∷ 97 ∷ 110 ∷ 107 ∷ 32 ∷ 49 ∷ 32 ∷ 101 ∷ 118 ∷ 101 ∷ 110 ∷ 116 ∷ 32 ∷ 101 ∷ 55 ∷ 32 ∷ 114 ∷ 97 ∷ 110 ∷ 107 ∷ 32 ∷ 49 ∷ 32 ∷ 101 ∷ 118 ∷ 101 ∷ 110 ∷ 116 ∷ 32 ∷ 101 ∷ 56 ∷ 32 ∷ 114 ∷ 97 ∷ 110 ∷ 107 ∷ 32 ∷ 49 ∷ 32 ∷ 101 ∷ 118 ∷ 101 ∷ 110 ∷ 116 ∷ 32 ∷ 101 ∷ 57 ∷ 32 ∷ 114 ∷ 97 ∷ 110 ∷ 107 ∷ 32 ∷ 49 ∷ 32 ∷ 101 ∷ 118 ∷ 101 ∷ 110 ∷ 116 ∷ 32 ∷ 101 ∷ 49 ∷ 48 ∷ 32 ∷ 114 ∷ 97 ∷ 110 ∷ 107 ∷ 32 ∷ 49 ∷ 32 ∷ 101 ∷ 118 ∷ 101 ∷ 110 ∷ 116 ∷ 32 ∷ 101 ∷ 49 ∷ 49 ∷ 32 ∷ 114 ∷ 97 ∷ 110 ∷ 107 ∷ 32 ∷ 49 ∷ 32 ∷ 101 ∷ 118 ∷ 101 ∷ 110 ∷ 116 ∷ 32 ∷ 101 ∷ 49 ∷ 50 ∷ 32 ∷ 114 ∷ 97 ∷ 110 ∷ 107 ∷ 32 ∷ 49 ∷ 32 ∷ 101 ∷ 118 ∷ 101 ∷ 110 ∷ 116 ∷ 32 ∷ 101 ∷ 49 ∷ 51 ∷ 32 ∷ 114 ∷ 97 ∷ 110 ∷ 107 ∷ 32 ∷ 49 ∷ 32 ∷ 101 ∷ 118 ∷ 101 ∷ 110 ∷ 116 ∷ 32 ∷ 101 ∷ 49 ∷ 52 ∷ 32 ∷ 114 ∷ 97 ∷ 110 ∷ 107 ∷ 32 ∷ 49 ∷ 32 ∷ 101 ∷ 118 ∷ 101 ∷ 110 ∷ 116 ∷ 32 ∷ 101 ∷ 49 ∷ 53 ∷ 32 ∷ 114 ∷ 97 ∷ 110 ∷ 107 ∷ 32 ∷ 49 ∷ 32 ∷ 101 ∷ 118 ∷ 101 ∷ 110 ∷ 116 ∷ 32 ∷ 101 ∷ 49 ∷ 54 ∷ 32 ∷ 114 ∷ 97 ∷ 110 ∷ 107 ∷ 32 ∷ 49 ∷ 32 ∷ 101 ∷ 118 ∷ 101 ∷ 110 ∷ 116 ∷ 32 ∷ 101 ∷ 49 ∷ 55 ∷ 32 ∷ 114 ∷ 97 ∷ 110 ∷ 107 ∷ 32 ∷ 49 ∷ 32 ∷ 101 ∷ 118 ∷ 101 ∷ 110 ∷ 116 ∷ 32 ∷ 101 ∷ 49 ∷ 56 ∷ 32 ∷ 114 ∷ 97 ∷ 110 ∷ 107 ∷ 32 ∷ 49 ∷ 32 ∷ 101 ∷ 118 ∷ 101 ∷ 110 ∷ 116 ∷ 32 ∷ 101 ∷ 49 ∷ 57 ∷ 32 ∷ 114 ∷ 97 ∷ 110 ∷ 107 ∷ 32 ∷ 49 ∷ 32 ∷ 101 ∷ 118 ∷ 101 ∷ 110 ∷ 116 ∷ 32 ∷ 101 ∷ 50 ∷ 48 ∷ 32 ∷ 114 ∷ 97 ∷ 110 ∷ 107 ∷ 32 ∷ 49 ∷ 32 ∷ 101 ∷ 118 ∷ 101 ∷ 110 ∷ 116 ∷ 32 ∷ 101 ∷ 50 ∷ 49 ∷ 32 ∷ 114 ∷ 97 ∷ 110 ∷ 107 ∷ 32 ∷ 49 ∷ 32 ∷ 101 ∷ 118 ∷ 101 ∷ 110 ∷ 116 ∷ 32 ∷ 101 ∷ 50 ∷ 50 ∷ 32 ∷ 114 ∷ 97 ∷ 110 ∷ 107 ∷ 32 ∷ 49 ∷ 32 ∷ 101 ∷ 118 ∷ 101 ∷ 110 ∷ 116 ∷ 32 ∷ 101 ∷ 50 ∷ 51 ∷ 32 ∷ 114 ∷ 97 ∷ 110 ∷ 107 ∷ 32 ∷ 49 ∷ 32 ∷ 101 ∷ 118 ∷ 101 ∷ 110 ∷ 116 ∷ 32 ∷ 101 ∷ 50 ∷ 52 ∷ 32 ∷ 114 ∷ 97 ∷ 110 ∷ 107 ∷ 32 ∷ 49 ∷ 32 ∷ 101 ∷ 118 ∷ 101 ∷ 110 ∷ 116 ∷ 32 ∷ 101 ∷ 50 ∷ 53 ∷ 32 ∷ 114 ∷ 97 ∷ 110 ∷ 107 ∷ 32 ∷ 49 ∷ 32 ∷ 101 ∷ 118 ∷ 101 ∷ 110 ∷ 116 ∷ 32 ∷ 101 ∷ 50 ∷ 54 ∷ 32 ∷ 114 ∷ 97 ∷ 110 ∷ 107 ∷ 32 ∷ 49 ∷ 32 ∷ 101 ∷ 118 ∷ 101 ∷ 110 ∷ 116 ∷ 32 ∷ 101 ∷ 50 ∷ 55 ∷ 32 ∷ 114 ∷ 97 ∷ 110 ∷ 107 ∷ 32 ∷ 49 ∷ 32 ∷ 101 ∷ 118 ∷ 101 ∷ 110 ∷ 116 ∷ 32 ∷ 101 ∷ 50 ∷ 56 ∷ 32 ∷ 114 ∷ 97 ∷ 110 ∷ 107 ∷ 32 ∷ 49 ∷ 32 ∷ 101 ∷ 118 ∷ 101 ∷ 110 ∷ 116 ∷ 32 ∷ 101 ∷ 50 ∷ 57 ∷ 32 ∷ 114 ∷ 97 ∷ 110 ∷ 107 ∷ 32 ∷ 49 ∷ 32 ∷ 101 ∷ 118 ∷ 101 ∷ 110 ∷ 116 ∷ 32 ∷ 101 ∷ 51 ∷ 48 ∷ 32 ∷ 114 ∷ 97 ∷ 110 ∷ 107 ∷ 32 ∷ 49 ∷ 32 ∷ 101 ∷ 118 ∷ 101 ∷ 110 ∷ 116 ∷ 32 ∷ 101 ∷ 51 ∷ 49 ∷ 32 ∷ 114 ∷ 97 ∷ 110 ∷ 107 ∷ 32 ∷ 49 ∷ 32 ∷ 101 ∷ 118 ∷ 101 ∷ 110 ∷ 116 ∷ 32 ∷ 101 ∷ 51 ∷ 50 ∷ 32 ∷ 114 ∷ 97 ∷ 110 ∷ 107 ∷ 32 ∷ 49 ∷ 32 ∷ []) 8192 ≡ fault tooMany 534)
+pub too_many : (assembled (112 ∷ 97 ∷ 114 ∷ 97 ∷ 109 ∷ 32 ∷ 112 ∷ 48 ∷ 32 ∷ 112 ∷ 97 ∷ 114 ∷ 97 ∷ 109 ∷ 32 ∷ 112 ∷ 49 ∷ 32 ∷ 112 ∷ 97 ∷ 114 ∷ 97 ∷ 109 ∷ 32 ∷ 112 ∷ 50 ∷ 32 ∷ 112 ∷ 97 ∷ 114 ∷ 97 ∷ 109 ∷ 32 ∷ 112 ∷ 51 ∷ 32 ∷ 112 ∷ 97 ∷ 114 ∷ 97 ∷ 109 ∷ 32 ∷ 112 ∷ 52 ∷ 32 ∷ 112 ∷ 97 ∷ 114 ∷ 97 ∷ 109 ∷ 32 ∷ 112 ∷ 53 ∷ 32 ∷ 112 ∷ 97 ∷ 114 ∷ 97 ∷ 109 ∷ 32 ∷ 112 ∷ 54 ∷ 32 ∷ 112 ∷ 97 ∷ 114 ∷ 97 ∷ 109 ∷ 32 ∷ 112 ∷ 55 ∷ 32 ∷ 112 ∷ 97 ∷ 114 ∷ 97 ∷ 109 ∷ 32 ∷ 112 ∷ 56 ∷ 32 ∷ []) 8192 ≡ fault too_many_fault 72)
+    × (assembled (114 ∷ 111 ∷ 119 ∷ 32 ∷ 114 ∷ 48 ∷ 91 ∷ 49 ∷ 54 ∷ 93 ∷ 61 ∷ 48 ∷ 32 ∷ 114 ∷ 111 ∷ 119 ∷ 32 ∷ 114 ∷ 49 ∷ 91 ∷ 49 ∷ 54 ∷ 93 ∷ 61 ∷ 48 ∷ 32 ∷ 114 ∷ 111 ∷ 119 ∷ 32 ∷ 114 ∷ 50 ∷ 91 ∷ 49 ∷ 54 ∷ 93 ∷ 61 ∷ 48 ∷ 32 ∷ 114 ∷ 111 ∷ 119 ∷ 32 ∷ 97 ∷ 91 ∷ 49 ∷ 53 ∷ 93 ∷ 61 ∷ 48 ∷ 32 ∷ 114 ∷ 111 ∷ 119 ∷ 32 ∷ 98 ∷ 91 ∷ 50 ∷ 93 ∷ 61 ∷ 48 ∷ []) 8192 ≡ fault too_many_fault 57)
+    × (assembled (114 ∷ 111 ∷ 119 ∷ 32 ∷ 114 ∷ 48 ∷ 91 ∷ 49 ∷ 54 ∷ 93 ∷ 61 ∷ 48 ∷ 32 ∷ 114 ∷ 111 ∷ 119 ∷ 32 ∷ 114 ∷ 49 ∷ 91 ∷ 49 ∷ 54 ∷ 93 ∷ 61 ∷ 48 ∷ 32 ∷ 114 ∷ 111 ∷ 119 ∷ 32 ∷ 114 ∷ 50 ∷ 91 ∷ 49 ∷ 54 ∷ 93 ∷ 61 ∷ 48 ∷ 32 ∷ 114 ∷ 111 ∷ 119 ∷ 32 ∷ 114 ∷ 51 ∷ 91 ∷ 49 ∷ 54 ∷ 93 ∷ 61 ∷ 48 ∷ 32 ∷ 114 ∷ 111 ∷ 119 ∷ 32 ∷ 49 ∷ []) 8192 ≡ fault too_many_fault 52)
+    × (assembled (101 ∷ 118 ∷ 101 ∷ 110 ∷ 116 ∷ 32 ∷ 101 ∷ 48 ∷ 32 ∷ 114 ∷ 97 ∷ 110 ∷ 107 ∷ 32 ∷ 49 ∷ 32 ∷ 101 ∷ 118 ∷ 101 ∷ 110 ∷ 116 ∷ 32 ∷ 101 ∷ 49 ∷ 32 ∷ 114 ∷ 97 ∷ 110 ∷ 107 ∷ 32 ∷ 49 ∷ 32 ∷ 101 ∷ 118 ∷ 101 ∷ 110 ∷ 116 ∷ 32 ∷ 101 ∷ 50 ∷ 32 ∷ 114 ∷ 97 ∷ 110 ∷ 107 ∷ 32 ∷ 49 ∷ 32 ∷ 101 ∷ 118 ∷ 101 ∷ 110 ∷ 116 ∷ 32 ∷ 101 ∷ 51 ∷ 32 ∷ 114 ∷ 97 ∷ 110 ∷ 107 ∷ 32 ∷ 49 ∷ 32 ∷ 101 ∷ 118 ∷ 101 ∷ 110 ∷ 116 ∷ 32 ∷ 101 ∷ 52 ∷ 32 ∷ 114 ∷ 97 ∷ 110 ∷ 107 ∷ 32 ∷ 49 ∷ 32 ∷ 101 ∷ 118 ∷ 101 ∷ 110 ∷ 116 ∷ 32 ∷ 101 ∷ 53 ∷ 32 ∷ 114 ∷ 97 ∷ 110 ∷ 107 ∷ 32 ∷ 49 ∷ 32 ∷ 101 ∷ 118 ∷ 101 ∷ 110 ∷ 116 ∷ 32 ∷ 101 ∷ 54 ∷ 32 ∷ 114 ∷ 97 ∷ 110 ∷ 107 ∷ 32 ∷ 49 ∷ 32 ∷ 101 ∷ 118 ∷ 101 ∷ 110 ∷ 116 ∷ 32 ∷ 101 ∷ 55 ∷ 32 ∷ 114 ∷ 97 ∷ 110 ∷ 107 ∷ 32 ∷ 49 ∷ 32 ∷ 101 ∷ 118 ∷ 101 ∷ 110 ∷ 116 ∷ 32 ∷ 101 ∷ 56 ∷ 32 ∷ 114 ∷ 97 ∷ 110 ∷ 107 ∷ 32 ∷ 49 ∷ 32 ∷ 101 ∷ 118 ∷ 101 ∷ 110 ∷ 116 ∷ 32 ∷ 101 ∷ 57 ∷ 32 ∷ 114 ∷ 97 ∷ 110 ∷ 107 ∷ 32 ∷ 49 ∷ 32 ∷ 101 ∷ 118 ∷ 101 ∷ 110 ∷ 116 ∷ 32 ∷ 101 ∷ 49 ∷ 48 ∷ 32 ∷ 114 ∷ 97 ∷ 110 ∷ 107 ∷ 32 ∷ 49 ∷ 32 ∷ 101 ∷ 118 ∷ 101 ∷ 110 ∷ 116 ∷ 32 ∷ 101 ∷ 49 ∷ 49 ∷ 32 ∷ 114 ∷ 97 ∷ 110 ∷ 107 ∷ 32 ∷ 49 ∷ 32 ∷ 101 ∷ 118 ∷ 101 ∷ 110 ∷ 116 ∷ 32 ∷ 101 ∷ 49 ∷ 50 ∷ 32 ∷ 114 ∷ 97 ∷ 110 ∷ 107 ∷ 32 ∷ 49 ∷ 32 ∷ 101 ∷ 118 ∷ 101 ∷ 110 ∷ 116 ∷ 32 ∷ 101 ∷ 49 ∷ 51 ∷ 32 ∷ 114 ∷ 97 ∷ 110 ∷ 107 ∷ 32 ∷ 49 ∷ 32 ∷ 101 ∷ 118 ∷ 101 ∷ 110 ∷ 116 ∷ 32 ∷ 101 ∷ 49 ∷ 52 ∷ 32 ∷ 114 ∷ 97 ∷ 110 ∷ 107 ∷ 32 ∷ 49 ∷ 32 ∷ 101 ∷ 118 ∷ 101 ∷ 110 ∷ 116 ∷ 32 ∷ 101 ∷ 49 ∷ 53 ∷ 32 ∷ 114 ∷ 97 ∷ 110 ∷ 107 ∷ 32 ∷ 49 ∷ 32 ∷ 101 ∷ 118 ∷ 101 ∷ 110 ∷ 116 ∷ 32 ∷ 101 ∷ 49 ∷ 54 ∷ 32 ∷ 114 ∷ 97 ∷ 110 ∷ 107 ∷ 32 ∷ 49 ∷ 32 ∷ 101 ∷ 118 ∷ 101 ∷ 110 ∷ 116 ∷ 32 ∷ 101 ∷ 49 ∷ 55 ∷ 32 ∷ 114 ∷ 97 ∷ 110 ∷ 107 ∷ 32 ∷ 49 ∷ 32 ∷ 101 ∷ 118 ∷ 101 ∷ 110 ∷ 116 ∷ 32 ∷ 101 ∷ 49 ∷ 56 ∷ 32 ∷ 114 ∷ 97 ∷ 110 ∷ 107 ∷ 32 ∷ 49 ∷ 32 ∷ 101 ∷ 118 ∷ 101 ∷ 110 ∷ 116 ∷ 32 ∷ 101 ∷ 49 ∷ 57 ∷ 32 ∷ 114 ∷ 97 ∷ 110 ∷ 107 ∷ 32 ∷ 49 ∷ 32 ∷ 101 ∷ 118 ∷ 101 ∷ 110 ∷ 116 ∷ 32 ∷ 101 ∷ 50 ∷ 48 ∷ 32 ∷ 114 ∷ 97 ∷ 110 ∷ 107 ∷ 32 ∷ 49 ∷ 32 ∷ 101 ∷ 118 ∷ 101 ∷ 110 ∷ 116 ∷ 32 ∷ 101 ∷ 50 ∷ 49 ∷ 32 ∷ 114 ∷ 97 ∷ 110 ∷ 107 ∷ 32 ∷ 49 ∷ 32 ∷ 101 ∷ 118 ∷ 101 ∷ 110 ∷ 116 ∷ 32 ∷ 101 ∷ 50 ∷ 50 ∷ 32 ∷ 114 ∷ 97 ∷ 110 ∷ 107 ∷ 32 ∷ 49 ∷ 32 ∷ 101 ∷ 118 ∷ 101 ∷ 110 ∷ 116 ∷ 32 ∷ 101 ∷ 50 ∷ 51 ∷ 32 ∷ 114 ∷ 97 ∷ 110 ∷ 107 ∷ 32 ∷ 49 ∷ 32 ∷ 101 ∷ 118 ∷ 101 ∷ 110 ∷ 116 ∷ 32 ∷ 101 ∷ 50 ∷ 52 ∷ 32 ∷ 114 ∷ 97 ∷ 110 ∷ 107 ∷ 32 ∷ 49 ∷ 32 ∷ 101 ∷ 118 ∷ 101 ∷ 110 ∷ 116 ∷ 32 ∷ 101 ∷ 50 ∷ 53 ∷ 32 ∷ 114 ∷ 97 ∷ 110 ∷ 107 ∷ 32 ∷ 49 ∷ 32 ∷ 101 ∷ 118 ∷ 101 ∷ 110 ∷ 116 ∷ 32 ∷ 101 ∷ 50 ∷ 54 ∷ 32 ∷ 114 ∷ 97 ∷ 110 ∷ 107 ∷ 32 ∷ 49 ∷ 32 ∷ 101 ∷ 118 ∷ 101 ∷ 110 ∷ 116 ∷ 32 ∷ 101 ∷ 50 ∷ 55 ∷ 32 ∷ 114 ∷ 97 ∷ 110 ∷ 107 ∷ 32 ∷ 49 ∷ 32 ∷ 101 ∷ 118 ∷ 101 ∷ 110 ∷ 116 ∷ 32 ∷ 101 ∷ 50 ∷ 56 ∷ 32 ∷ 114 ∷ 97 ∷ 110 ∷ 107 ∷ 32 ∷ 49 ∷ 32 ∷ 101 ∷ 118 ∷ 101 ∷ 110 ∷ 116 ∷ 32 ∷ 101 ∷ 50 ∷ 57 ∷ 32 ∷ 114 ∷ 97 ∷ 110 ∷ 107 ∷ 32 ∷ 49 ∷ 32 ∷ 101 ∷ 118 ∷ 101 ∷ 110 ∷ 116 ∷ 32 ∷ 101 ∷ 51 ∷ 48 ∷ 32 ∷ 114 ∷ 97 ∷ 110 ∷ 107 ∷ 32 ∷ 49 ∷ 32 ∷ 101 ∷ 118 ∷ 101 ∷ 110 ∷ 116 ∷ 32 ∷ 101 ∷ 51 ∷ 49 ∷ 32 ∷ 114 ∷ 97 ∷ 110 ∷ 107 ∷ 32 ∷ 49 ∷ 32 ∷ 101 ∷ 118 ∷ 101 ∷ 110 ∷ 116 ∷ 32 ∷ 101 ∷ 51 ∷ 50 ∷ 32 ∷ 114 ∷ 97 ∷ 110 ∷ 107 ∷ 32 ∷ 49 ∷ 32 ∷ []) 8192 ≡ fault too_many_fault 534)
 unfolding marks reserved same sign_of is_digit is_letter in_word is_blank in_comment decimal_value level run_of_kind beyond_run first_in_text scanned_tokens among phrase_nesting after_all among_players bits_below behaviour_named meaning_of_name event_named term_of clauses_of entries_of sheet_of past_sign value_of after_operand cell_of read_constant read_negation read_choice signed_of from_operand phrase_within more_players from_of seen_of many_of default_of parameter_of event_declared reaction_of passive_declared state_of row_declared behaviour_declared behaviour_begins declarations_of read_text assembled encode encode_events encode_behaviours encode_handlers encode_expr
 too_many = (refl, refl, refl, refl)
 
@@ -268,8 +268,8 @@ too_many = (refl, refl, refl, refl)
 --   param a param a  ('declaredTwice', 14)
 --   param a event e rank 1 passive a=1  ('declaredTwice', 31)
 --   event a rank 1 passive a=1
-pub declared_twice : (assembled (112 ∷ 97 ∷ 114 ∷ 97 ∷ 109 ∷ 32 ∷ 97 ∷ 32 ∷ 112 ∷ 97 ∷ 114 ∷ 97 ∷ 109 ∷ 32 ∷ 97 ∷ []) 8192 ≡ fault declaredTwice 14)
-    × (assembled (112 ∷ 97 ∷ 114 ∷ 97 ∷ 109 ∷ 32 ∷ 97 ∷ 32 ∷ 101 ∷ 118 ∷ 101 ∷ 110 ∷ 116 ∷ 32 ∷ 101 ∷ 32 ∷ 114 ∷ 97 ∷ 110 ∷ 107 ∷ 32 ∷ 49 ∷ 32 ∷ 112 ∷ 97 ∷ 115 ∷ 115 ∷ 105 ∷ 118 ∷ 101 ∷ 32 ∷ 97 ∷ 61 ∷ 49 ∷ []) 8192 ≡ fault declaredTwice 31)
+pub declared_twice : (assembled (112 ∷ 97 ∷ 114 ∷ 97 ∷ 109 ∷ 32 ∷ 97 ∷ 32 ∷ 112 ∷ 97 ∷ 114 ∷ 97 ∷ 109 ∷ 32 ∷ 97 ∷ []) 8192 ≡ fault declared_twice_fault 14)
+    × (assembled (112 ∷ 97 ∷ 114 ∷ 97 ∷ 109 ∷ 32 ∷ 97 ∷ 32 ∷ 101 ∷ 118 ∷ 101 ∷ 110 ∷ 116 ∷ 32 ∷ 101 ∷ 32 ∷ 114 ∷ 97 ∷ 110 ∷ 107 ∷ 32 ∷ 49 ∷ 32 ∷ 112 ∷ 97 ∷ 115 ∷ 115 ∷ 105 ∷ 118 ∷ 101 ∷ 32 ∷ 97 ∷ 61 ∷ 49 ∷ []) 8192 ≡ fault declared_twice_fault 31)
     × (assembled (101 ∷ 118 ∷ 101 ∷ 110 ∷ 116 ∷ 32 ∷ 97 ∷ 32 ∷ 114 ∷ 97 ∷ 110 ∷ 107 ∷ 32 ∷ 49 ∷ 32 ∷ 112 ∷ 97 ∷ 115 ∷ 115 ∷ 105 ∷ 118 ∷ 101 ∷ 32 ∷ 97 ∷ 61 ∷ 49 ∷ []) 8192 ≡ fine (
     1 ∷ 0 ∷ 1 ∷ 1 ∷ 2 ∷ 0 ∷ 7 ∷ 16 ∷ 0 ∷ 4 ∷ 0 ∷ 0 ∷ 0 ∷ 1 ∷ []))
 unfolding marks reserved same sign_of is_digit is_letter in_word is_blank in_comment decimal_value level run_of_kind beyond_run first_in_text scanned_tokens among phrase_nesting after_all among_players bits_below behaviour_named meaning_of_name event_named term_of clauses_of entries_of sheet_of past_sign value_of after_operand cell_of read_constant read_negation read_choice signed_of from_operand phrase_within more_players from_of seen_of many_of default_of parameter_of event_declared reaction_of passive_declared state_of row_declared behaviour_declared behaviour_begins declarations_of read_text assembled encode encode_events encode_behaviours encode_handlers encode_expr
@@ -278,7 +278,7 @@ declared_twice = (refl, refl, refl)
 -- a second handler for an event, an event that is not declared
 --   event e rank 1 active a=0 on e:1 on e later:2  ('secondHandler', 36)
 --   event e rank 1 active a=0 on f:1  ('unknownName', 29)
-pub handlers : (assembled (101 ∷ 118 ∷ 101 ∷ 110 ∷ 116 ∷ 32 ∷ 101 ∷ 32 ∷ 114 ∷ 97 ∷ 110 ∷ 107 ∷ 32 ∷ 49 ∷ 32 ∷ 97 ∷ 99 ∷ 116 ∷ 105 ∷ 118 ∷ 101 ∷ 32 ∷ 97 ∷ 61 ∷ 48 ∷ 32 ∷ 111 ∷ 110 ∷ 32 ∷ 101 ∷ 58 ∷ 49 ∷ 32 ∷ 111 ∷ 110 ∷ 32 ∷ 101 ∷ 32 ∷ 108 ∷ 97 ∷ 116 ∷ 101 ∷ 114 ∷ 58 ∷ 50 ∷ []) 8192 ≡ fault secondHandler 36)
+pub handlers : (assembled (101 ∷ 118 ∷ 101 ∷ 110 ∷ 116 ∷ 32 ∷ 101 ∷ 32 ∷ 114 ∷ 97 ∷ 110 ∷ 107 ∷ 32 ∷ 49 ∷ 32 ∷ 97 ∷ 99 ∷ 116 ∷ 105 ∷ 118 ∷ 101 ∷ 32 ∷ 97 ∷ 61 ∷ 48 ∷ 32 ∷ 111 ∷ 110 ∷ 32 ∷ 101 ∷ 58 ∷ 49 ∷ 32 ∷ 111 ∷ 110 ∷ 32 ∷ 101 ∷ 32 ∷ 108 ∷ 97 ∷ 116 ∷ 101 ∷ 114 ∷ 58 ∷ 50 ∷ []) 8192 ≡ fault second_handler_fault 36)
     × (assembled (101 ∷ 118 ∷ 101 ∷ 110 ∷ 116 ∷ 32 ∷ 101 ∷ 32 ∷ 114 ∷ 97 ∷ 110 ∷ 107 ∷ 32 ∷ 49 ∷ 32 ∷ 97 ∷ 99 ∷ 116 ∷ 105 ∷ 118 ∷ 101 ∷ 32 ∷ 97 ∷ 61 ∷ 48 ∷ 32 ∷ 111 ∷ 110 ∷ 32 ∷ 102 ∷ 58 ∷ 49 ∷ []) 8192 ≡ fault unknown_name 29)
 unfolding marks reserved same sign_of is_digit is_letter in_word is_blank in_comment decimal_value level run_of_kind beyond_run first_in_text scanned_tokens among phrase_nesting after_all among_players bits_below behaviour_named meaning_of_name event_named term_of clauses_of entries_of sheet_of past_sign value_of after_operand cell_of read_constant read_negation read_choice signed_of from_operand phrase_within more_players from_of seen_of many_of default_of parameter_of event_declared reaction_of passive_declared state_of row_declared behaviour_declared behaviour_begins declarations_of read_text assembled encode encode_events encode_behaviours encode_handlers encode_expr
 handlers = (refl, refl)
@@ -362,17 +362,17 @@ brackets = (refl, refl, refl, refl, refl, refl)
 --   passive a=b passive a=1  ('declaredTwice', 20)
 --   param p passive a=p[0]  ('noSuchCell', 19)
 pub unknown : (assembled (112 ∷ 97 ∷ 115 ∷ 115 ∷ 105 ∷ 118 ∷ 101 ∷ 32 ∷ 97 ∷ 61 ∷ 49 ∷ 43 ∷ 98 ∷ []) 8192 ≡ fault unknown_name 12)
-    × (assembled (112 ∷ 97 ∷ 115 ∷ 115 ∷ 105 ∷ 118 ∷ 101 ∷ 32 ∷ 97 ∷ 61 ∷ 97 ∷ 91 ∷ 48 ∷ 93 ∷ []) 8192 ≡ fault noSuchCell 11)
-    × (assembled (114 ∷ 111 ∷ 119 ∷ 32 ∷ 114 ∷ 91 ∷ 50 ∷ 93 ∷ 61 ∷ 48 ∷ 32 ∷ 112 ∷ 97 ∷ 115 ∷ 115 ∷ 105 ∷ 118 ∷ 101 ∷ 32 ∷ 97 ∷ 61 ∷ 114 ∷ 91 ∷ 50 ∷ 93 ∷ []) 8192 ≡ fault noSuchCell 22)
-    × (assembled (101 ∷ 118 ∷ 101 ∷ 110 ∷ 116 ∷ 32 ∷ 101 ∷ 32 ∷ 114 ∷ 97 ∷ 110 ∷ 107 ∷ 32 ∷ 49 ∷ 32 ∷ 114 ∷ 111 ∷ 119 ∷ 32 ∷ 114 ∷ 91 ∷ 50 ∷ 93 ∷ 61 ∷ 48 ∷ 32 ∷ 111 ∷ 110 ∷ 32 ∷ 101 ∷ 58 ∷ 114 ∷ 91 ∷ 48 ∷ 93 ∷ []) 8192 ≡ fault noSuchCell 32)
-    × (assembled (112 ∷ 97 ∷ 115 ∷ 115 ∷ 105 ∷ 118 ∷ 101 ∷ 32 ∷ 97 ∷ 61 ∷ 98 ∷ 32 ∷ 112 ∷ 97 ∷ 115 ∷ 115 ∷ 105 ∷ 118 ∷ 101 ∷ 32 ∷ 97 ∷ 61 ∷ 49 ∷ []) 8192 ≡ fault declaredTwice 20)
-    × (assembled (112 ∷ 97 ∷ 114 ∷ 97 ∷ 109 ∷ 32 ∷ 112 ∷ 32 ∷ 112 ∷ 97 ∷ 115 ∷ 115 ∷ 105 ∷ 118 ∷ 101 ∷ 32 ∷ 97 ∷ 61 ∷ 112 ∷ 91 ∷ 48 ∷ 93 ∷ []) 8192 ≡ fault noSuchCell 19)
+    × (assembled (112 ∷ 97 ∷ 115 ∷ 115 ∷ 105 ∷ 118 ∷ 101 ∷ 32 ∷ 97 ∷ 61 ∷ 97 ∷ 91 ∷ 48 ∷ 93 ∷ []) 8192 ≡ fault no_such_cell_fault 11)
+    × (assembled (114 ∷ 111 ∷ 119 ∷ 32 ∷ 114 ∷ 91 ∷ 50 ∷ 93 ∷ 61 ∷ 48 ∷ 32 ∷ 112 ∷ 97 ∷ 115 ∷ 115 ∷ 105 ∷ 118 ∷ 101 ∷ 32 ∷ 97 ∷ 61 ∷ 114 ∷ 91 ∷ 50 ∷ 93 ∷ []) 8192 ≡ fault no_such_cell_fault 22)
+    × (assembled (101 ∷ 118 ∷ 101 ∷ 110 ∷ 116 ∷ 32 ∷ 101 ∷ 32 ∷ 114 ∷ 97 ∷ 110 ∷ 107 ∷ 32 ∷ 49 ∷ 32 ∷ 114 ∷ 111 ∷ 119 ∷ 32 ∷ 114 ∷ 91 ∷ 50 ∷ 93 ∷ 61 ∷ 48 ∷ 32 ∷ 111 ∷ 110 ∷ 32 ∷ 101 ∷ 58 ∷ 114 ∷ 91 ∷ 48 ∷ 93 ∷ []) 8192 ≡ fault no_such_cell_fault 32)
+    × (assembled (112 ∷ 97 ∷ 115 ∷ 115 ∷ 105 ∷ 118 ∷ 101 ∷ 32 ∷ 97 ∷ 61 ∷ 98 ∷ 32 ∷ 112 ∷ 97 ∷ 115 ∷ 115 ∷ 105 ∷ 118 ∷ 101 ∷ 32 ∷ 97 ∷ 61 ∷ 49 ∷ []) 8192 ≡ fault declared_twice_fault 20)
+    × (assembled (112 ∷ 97 ∷ 114 ∷ 97 ∷ 109 ∷ 32 ∷ 112 ∷ 32 ∷ 112 ∷ 97 ∷ 115 ∷ 115 ∷ 105 ∷ 118 ∷ 101 ∷ 32 ∷ 97 ∷ 61 ∷ 112 ∷ 91 ∷ 48 ∷ 93 ∷ []) 8192 ≡ fault no_such_cell_fault 19)
 unfolding marks reserved same sign_of is_digit is_letter in_word is_blank in_comment decimal_value level run_of_kind beyond_run first_in_text scanned_tokens among phrase_nesting after_all among_players bits_below behaviour_named meaning_of_name event_named term_of clauses_of entries_of sheet_of past_sign value_of after_operand cell_of read_constant read_negation read_choice signed_of from_operand phrase_within more_players from_of seen_of many_of default_of parameter_of event_declared reaction_of passive_declared state_of row_declared behaviour_declared behaviour_begins declarations_of read_text assembled encode encode_events encode_behaviours encode_handlers encode_expr
 unknown = (refl, refl, refl, refl, refl, refl)
 
 -- a text of 65,537 bytes is turned down before anything else, at its last byte; a buffer of 73 bytes is too short for
 -- sheet S, at the end of its text
-pub lengths : (assembled (64 ∷ replicate 65536 32) 0 ≡ fault longText 65536) × (assembled sheet_S 73 ≡ fault shortBuffer 100)
+pub lengths : (assembled (64 ∷ replicate 65536 32) 0 ≡ fault long_text_fault 65536) × (assembled sheet_S 73 ≡ fault short_buffer_fault 100)
 unfolding marks reserved same sign_of is_digit is_letter in_word is_blank in_comment decimal_value level run_of_kind beyond_run first_in_text scanned_tokens among phrase_nesting after_all among_players bits_below behaviour_named meaning_of_name event_named term_of clauses_of entries_of sheet_of past_sign value_of after_operand cell_of read_constant read_negation read_choice signed_of from_operand phrase_within more_players from_of seen_of many_of default_of parameter_of event_declared reaction_of passive_declared state_of row_declared behaviour_declared behaviour_begins declarations_of read_text assembled encode encode_events encode_behaviours encode_handlers encode_expr
 lengths = (refl, refl)
 
@@ -382,7 +382,7 @@ lengths = (refl, refl)
 --     param b
 --    param a
 pub place_told_law : assemble_on (112 ∷ 97 ∷ 114 ∷ 97 ∷ 109 ∷ 32 ∷ 97 ∷ 10 ∷ 10 ∷ 32 ∷ 32 ∷ 112 ∷ 97 ∷ 114 ∷ 97 ∷ 109 ∷ 32 ∷ 98 ∷ 10 ∷ 32 ∷ 112 ∷ 97 ∷ 114 ∷ 97 ∷ 109 ∷ 32 ∷ 97 ∷ []) (9 ∷ [])
-    ≡ (turned_down declaredTwice 4 8, 9 ∷ [])
+    ≡ (turned_down declared_twice_fault 4 8, 9 ∷ [])
 unfolding line_from column_from assemble_on marks reserved same sign_of is_digit is_letter in_word is_blank in_comment decimal_value level run_of_kind beyond_run first_in_text scanned_tokens among phrase_nesting after_all among_players bits_below behaviour_named meaning_of_name event_named term_of clauses_of entries_of sheet_of past_sign value_of after_operand cell_of read_constant read_negation read_choice signed_of from_operand phrase_within more_players from_of seen_of many_of default_of parameter_of event_declared reaction_of passive_declared state_of row_declared behaviour_declared behaviour_begins declarations_of read_text assembled encode encode_events encode_behaviours encode_handlers encode_expr
 place_told_law = refl
 
@@ -401,8 +401,8 @@ pub constants : ConstantFits (plus 2147483647) × (ConstantFits (plus 2147483648
 constants = (omega arith, (λ h. omega arith), omega arith, (λ h. omega arith))
 
 -- a sheet of 8,192 bytes, at the end of a text of nine: in a buffer of as many, and of one byte less; one of 8,193
-pub longest_sheet : (s : Sheet) → length (encode s) ≡ 8192 → (length_judged 9 8192 s ≡ fine (encode s)) × (length_judged 9 8191 s ≡ fault shortBuffer 9)
+pub longest_sheet : (s : Sheet) → length (encode s) ≡ 8192 → (length_judged 9 8192 s ≡ fine (encode s)) × (length_judged 9 8191 s ≡ fault short_buffer_fault 9)
 longest_sheet s h = (rw h, rw h)
 
-pub too_long_a_sheet : (s : Sheet) → length (encode s) ≡ 8193 → length_judged 9 8193 s ≡ fault longSheet 9
+pub too_long_a_sheet : (s : Sheet) → length (encode s) ≡ 8193 → length_judged 9 8193 s ≡ fault long_sheet_fault 9
 too_long_a_sheet s h = rw h

@@ -20,7 +20,7 @@ use Rattle.source_language.specs.Text.{TextConstant, plus, minus, Phrase, consta
 use Rattle.source_language.specs.Faults.{OrFault, fault, fine, and_then}
 use Rattle.source_language.specs.Grammar.{a_text, TextSays, says}
 use Rattle.source_language.specs.Limits.{among, ConstantFits, phrase_nesting, NumbersFit, FitInTurn, after_all, with_parameter, EventFits, with_event, ReactionFits, with_reaction, body_cells, BodyFits, taken, TextBehaviourFits, with_behaviour, TextFits}
-use Rattle.source_language.specs.Meaning.{constant_word, among_players, bits_below, rights_of, NameMeaning, nothing, aParameter, aBehaviour, a_row, meaning_of_name, event_named, name_term, cell_term, term_of, clauses_of, item_of, entries_of, signal_of, sheet_of}
+use Rattle.source_language.specs.Meaning.{constant_word, among_players, bits_below, rights_of, NameMeaning, nothing, a_parameter, a_behaviour, a_row, meaning_of_name, event_named, name_term, cell_term, term_of, clauses_of, item_of, entries_of, signal_of, sheet_of}
 use Rattle.source_language.proofs.Scans.{same_self}
 use Rattle.source_language.proofs.Names.{event_count_law, total, behaviour_count_law, FoundIn, found_in, event_within, event_own}
 use Rattle.source_language.proofs.Proper.{Proper, ProperReaction, ProperBody, ProperBehaviour, behaviours_proper}
@@ -73,14 +73,14 @@ module _ (m : ℕ) (few : m ≤ 64) where
 
   name_in : (k p : ℕ) (f : NameMeaning) → FoundIn m f → Okay (TermIn m (suc k)) (name_term p f)
   name_in k p nothing h = tt
-  name_in k p (aParameter i) h = param_in k i h
-  name_in k p (aBehaviour i) h = variable_in k i h
+  name_in k p (a_parameter i) h = param_in k i h
+  name_in k p (a_behaviour i) h = variable_in k i h
   name_in k p (a_row i n) h = variable_in k i (omega arith)
 
   cell_in : (k c p q j : ℕ) (f : NameMeaning) → FoundIn m f → Okay (TermIn m (suc k)) (cell_term c p q j f)
   cell_in k c p q j nothing h = tt
-  cell_in k c p q j (aParameter i) h = tt
-  cell_in k c p q j (aBehaviour i) h = tt
+  cell_in k c p q j (a_parameter i) h = tt
+  cell_in k c p q j (a_behaviour i) h = tt
   cell_in k c p q j (a_row i n) h =
       by_test (Okay (TermIn m (suc k))) (ltb j n)
       (λ e. by_test (Okay (TermIn m (suc k))) (eqb j 0 && eqb n c) (λ d. tt) (λ d. variable_in k (i + j) (omega (arith, ltb-true j n e))))

@@ -6,7 +6,7 @@ use Rattle.lib_base.proofs.Tools.{by_test, split}
 use Rattle.source_language.specs.Tokens.{same}
 use Rattle.source_language.specs.Text.{Body, passive, active, row, Parameter, parameter, TextEvent, event, TextBehaviour, behaviour}
 use Rattle.source_language.specs.Limits.{among, FitInTurn, after_all, ParameterFits, with_parameter, EventFits, with_event, body_cells, BodyFits, taken, TextBehaviourFits, with_behaviour}
-use Rattle.source_language.specs.Meaning.{NameMeaning, nothing, aParameter, aBehaviour, a_row, found_as, behaviour_named, meaning_of_name, event_named}
+use Rattle.source_language.specs.Meaning.{NameMeaning, nothing, a_parameter, a_behaviour, a_row, found_as, behaviour_named, meaning_of_name, event_named}
 use Rattle.source_language.proofs.Scans.{same_is}
 
 -- ---- counts
@@ -30,8 +30,8 @@ behaviour_count_law es ns i (behaviour s b m ∷ bs) h f = omega (arith, behavio
 -- what is found lies among m behaviours
 abbrev pub FoundIn : ℕ → NameMeaning → Type 0
 FoundIn m nothing = Unit {0}
-FoundIn m (aParameter i) = i < 8
-FoundIn m (aBehaviour i) = i < m
+FoundIn m (a_parameter i) = i < 8
+FoundIn m (a_behaviour i) = i < m
 FoundIn m (a_row i n) = (0 < n) × (i + n ≤ m)
 
 body_in : (es : List (List ℕ)) (i m : ℕ) (b : Body) → BodyFits es b → i + body_cells b ≤ m → FoundIn m (found_as i b)

@@ -7,7 +7,7 @@ use Rattle.source_language.specs.Tokens.{same}
 use Rattle.source_language.specs.Text.{Phrase, constant, named, cell, negation, operation, choice, Reaction, on, Body, passive, active, row, Parameter, parameter, TextEvent, event, TextBehaviour, behaviour, Text, text}
 use Rattle.source_language.specs.Faults.{OrFault, fault, fine, and_then}
 use Rattle.source_language.specs.Limits.{among, phrase_nesting, NumbersFit, PhraseFits, FitInTurn, after_all, ParameterFits, with_parameter, EventFits, with_event, ReactionFits, with_reaction, body_cells, BodyFits, taken, TextBehaviourFits, with_behaviour, TextFits}
-use Rattle.source_language.specs.Meaning.{NameMeaning, nothing, aParameter, aBehaviour, a_row, found_as, behaviour_named, meaning_of_name, event_named, name_term, cell_term, term_of, clauses_of, item_of, entries_of, signal_of, sheet_of}
+use Rattle.source_language.specs.Meaning.{NameMeaning, nothing, a_parameter, a_behaviour, a_row, found_as, behaviour_named, meaning_of_name, event_named, name_term, cell_term, term_of, clauses_of, item_of, entries_of, signal_of, sheet_of}
 use Rattle.source_language.specs.Renaming.{KeepsApart, phrase_as, reactions_as, body_as, parameter_as, event_as, behaviour_as, text_as}
 use Rattle.source_language.specs.Moved.{moved_by}
 use Rattle.source_language.proofs.Scans.{same_is, same_self}
@@ -51,14 +51,14 @@ module _ (f h : List ℕ → List ℕ) (g : ℕ → ℕ) (c : KeepsApart f) (d :
 
   name_moved : (p : ℕ) (x : NameMeaning) → name_term (g p) x ≡ moved_by g (name_term p x)
   name_moved p nothing = refl
-  name_moved p (aParameter i) = refl
-  name_moved p (aBehaviour i) = refl
+  name_moved p (a_parameter i) = refl
+  name_moved p (a_behaviour i) = refl
   name_moved p (a_row i n) = refl
 
   cell_moved : (k p q j : ℕ) (x : NameMeaning) → cell_term k (g p) (g q) j x ≡ moved_by g (cell_term k p q j x)
   cell_moved k p q j nothing = refl
-  cell_moved k p q j (aParameter i) = refl
-  cell_moved k p q j (aBehaviour i) = refl
+  cell_moved k p q j (a_parameter i) = refl
+  cell_moved k p q j (a_behaviour i) = refl
   cell_moved k p q j (a_row i n) =
       split (ltb j n) (λ e. split (eqb j 0 && eqb n k) (λ a. rw (e, a)) (λ a. rw (e, a))) (λ e. rw e)
 

@@ -2,7 +2,7 @@
 use Rattle.std.specs.Prelude.{ℕ}
 
 pub data Kind : Type 0 where
-  outside too_large off_scale tooMany declaredTwice secondHandler too_deep unknown_name noSuchCell longSheet shortBuffer longText : Kind
+  outside too_large off_scale too_many_fault declared_twice_fault second_handler_fault too_deep unknown_name no_such_cell_fault long_sheet_fault short_buffer_fault long_text_fault : Kind
 
 -- a result, or the first fault
 pub data OrFault (A : Type 0) : Type 0 where

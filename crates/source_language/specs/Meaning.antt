@@ -9,7 +9,7 @@ use Rattle.source_language.specs.Text.{TextConstant, plus, minus, Phrase, consta
 use Rattle.source_language.specs.Text.{operation, choice, Reaction, on, Body, passive, active, Parameter}
 use Rattle.source_language.specs.Text.{parameter, TextEvent, event, TextBehaviour, behaviour, Text, text}
 use Rattle.source_language.specs.Text as T
-use Rattle.source_language.specs.Faults.{unknown_name, noSuchCell, OrFault, fault, fine, and_then}
+use Rattle.source_language.specs.Faults.{unknown_name, no_such_cell_fault, OrFault, fault, fine, and_then}
 use Rattle.source_language.specs.Limits.{body_cells}
 
 -- a constant is a 32-bit word
@@ -36,12 +36,12 @@ rights_of (some ms) = some (bits_below 8 ms)
 -- what a name stands for: nothing, a parameter, a behaviour, or a row by its first cell and its count
 pub data NameMeaning : Type 0 where
   nothing : NameMeaning
-  aParameter aBehaviour : ℕ → NameMeaning
+  a_parameter a_behaviour : ℕ → NameMeaning
   a_row : ℕ → ℕ → NameMeaning
 
 abbrev pub found_as : ℕ → Body → NameMeaning
-found_as i (passive e) = aBehaviour i
-found_as i (active c hs) = aBehaviour i
+found_as i (passive e) = a_behaviour i
+found_as i (active c hs) = a_behaviour i
 found_as i (T.row n c hs) = a_row i n
 
 -- among behaviours, of which the first has number i
@@ -52,7 +52,7 @@ behaviour_named i (behaviour t b m ∷ bs) s = pick (same s t) (found_as i b) (b
 -- among parameters, of which the first has number i, and then among behaviours
 unfoldable pub meaning_of_name : ℕ → List Parameter → List TextBehaviour → List ℕ → NameMeaning
 meaning_of_name i [] bs s = behaviour_named 0 bs s
-meaning_of_name i (parameter t d ∷ ps) bs s = pick (same s t) (aParameter i) (meaning_of_name (suc i) ps bs s)
+meaning_of_name i (parameter t d ∷ ps) bs s = pick (same s t) (a_parameter i) (meaning_of_name (suc i) ps bs s)
 
 -- the event of this name
 unfoldable pub event_named : List TextEvent → List ℕ → ℕ
@@ -63,17 +63,17 @@ event_named (event t n m ∷ es) s = pick (same s t) 0 (suc (event_named es s))
 
 abbrev pub name_term : ℕ → NameMeaning → OrFault Term
 name_term p nothing = fault unknown_name p
-name_term p (aParameter i) = fine (param i)
-name_term p (aBehaviour i) = fine (variable i)
+name_term p (a_parameter i) = fine (param i)
+name_term p (a_behaviour i) = fine (variable i)
 name_term p (a_row i n) = fine (variable i)
 
 -- "a row's cell counted from 0"; in a handler of a row of c cells "cell 0 of such a row cannot be said"; c is 0
 -- elsewhere
 abbrev pub cell_term : ℕ → ℕ → ℕ → ℕ → NameMeaning → OrFault Term
 cell_term c p q k nothing = fault unknown_name p
-cell_term c p q k (aParameter i) = fault noSuchCell q
-cell_term c p q k (aBehaviour i) = fault noSuchCell q
-cell_term c p q k (a_row i n) = pick (ltb k n) (pick (eqb k 0 && eqb n c) (fault noSuchCell q) (fine (variable (i + k)))) (fault noSuchCell q)
+cell_term c p q k (a_parameter i) = fault no_such_cell_fault q
+cell_term c p q k (a_behaviour i) = fault no_such_cell_fault q
+cell_term c p q k (a_row i n) = pick (ltb k n) (pick (eqb k 0 && eqb n c) (fault no_such_cell_fault q) (fine (variable (i + k)))) (fault no_such_cell_fault q)
 
 -- a formula's expression, where names are found so, in a handler of a row of c cells
 module _ (find : List ℕ → NameMeaning) (c : ℕ) where

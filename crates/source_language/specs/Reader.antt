@@ -8,7 +8,7 @@ use Rattle.lib_signature.specs.Numbers.{not_fn, if_fn, subtract_fn}
 use Rattle.spec_language.specs.Syntax.{Phase, immediate, later}
 use Rattle.source_language.specs.Tokens.{SheetToken, number, name, sign, opening, closing, comma, colon, equals, bracket, unbracket, rank_word, from_word, by_word, nobody_word, later_word, seen_word, on_word, param_word, event_keyword, passive_word, row_word, end_sign}
 use Rattle.source_language.specs.Text.{TextConstant, plus, minus, Phrase, constant, named, cell, negation, operation, choice, Reaction, on, Body, passive, active, row, Parameter, parameter, TextEvent, event, TextBehaviour, behaviour, Text, text}
-use Rattle.source_language.specs.Faults.{Kind, outside, too_large, off_scale, tooMany, declaredTwice, secondHandler, too_deep, unknown_name, OrFault, fault, fine}
+use Rattle.source_language.specs.Faults.{Kind, outside, too_large, off_scale, too_many_fault, declared_twice_fault, second_handler_fault, too_deep, unknown_name, OrFault, fault, fine}
 use Rattle.source_language.specs.Limits.{among, largest, phrase_nesting, after_all, with_parameter, with_event, with_reaction, NamesTaken, taken, with_behaviour}
 use Rattle.source_language.specs.Scanner.{scan_text}
 
@@ -186,14 +186,14 @@ default_of s ts =
 
 unfoldable pub parameter_of : List (List ℕ) → List SheetToken → Phrased Parameter
 parameter_of ns ts =
-    pick (leb 8 (length ns)) (bad tooMany (place_at ts))
-    (name_due (λ p s us. pick (among s ns) (bad declaredTwice p) (default_of s us)) (tokens_after ts))
+    pick (leb 8 (length ns)) (bad too_many_fault (place_at ts))
+    (name_due (λ p s us. pick (among s ns) (bad declared_twice_fault p) (default_of s us)) (tokens_after ts))
 
 unfoldable pub event_declared : List (List ℕ) → List SheetToken → Phrased TextEvent
 event_declared ns ts =
-    pick (leb 32 (length ns)) (bad tooMany (place_at ts))
+    pick (leb 32 (length ns)) (bad too_many_fault (place_at ts))
     (name_due (λ p s us.
-    pick (among s ns) (bad declaredTwice p)
+    pick (among s ns) (bad declared_twice_fault p)
     (past_sign rank_word (number_due largest (λ q n vs.
     pick (ltb 15 n) (bad off_scale q)
     (then_phrase (from_of vs) (λ m ws. got (event s n m) ws)))) us)) (tokens_after ts))
@@ -204,7 +204,7 @@ body_declared s φ ts = past_sign colon (λ us. then_phrase (formula_of us) (λ 
 unfoldable pub reaction_of : List (List ℕ) → List (List ℕ) → List SheetToken → Phrased Reaction
 reaction_of es ns ts =
     name_due (λ p s us.
-    pick (among s ns) (bad secondHandler p)
+    pick (among s ns) (bad second_handler_fault p)
     (pick (among s es)
     (pick (eqb (sign_at us) later_word) (body_declared s later (tokens_after us)) (body_declared s immediate us))
     (bad unknown_name p))) (tokens_after ts)
@@ -227,7 +227,7 @@ unfoldable pub row_declared : List (List ℕ) → ℕ → List ℕ → List Shee
 row_declared es i s ts =
     past_sign bracket (number_due largest (λ p n us.
     pick (ltb n 2 || ltb 16 n) (bad off_scale p)
-    (pick (ltb 64 (i + n)) (bad tooMany p)
+    (pick (ltb 64 (i + n)) (bad too_many_fault p)
     (past_sign unbracket (state_of es s (row n)) us)))) ts
 
 abbrev pub kind_declared : List (List ℕ) → ℕ → ℕ → List ℕ → List SheetToken → Phrased TextBehaviour
@@ -236,8 +236,8 @@ kind_declared es i word s ts =
 
 unfoldable pub behaviour_declared : List (List ℕ) → NamesTaken → List SheetToken → Phrased TextBehaviour
 behaviour_declared es (taken ns i) ts =
-    pick (leb 64 i) (bad tooMany (place_at ts))
-    (name_due (λ p s us. pick (among s ns) (bad declaredTwice p) (kind_declared es i (sign_at ts) s us)) (tokens_after ts))
+    pick (leb 64 i) (bad too_many_fault (place_at ts))
+    (name_due (λ p s us. pick (among s ns) (bad declared_twice_fault p) (kind_declared es i (sign_at ts) s us)) (tokens_after ts))
 
 -- a word that begins a behaviour
 unfoldable pub behaviour_begins : ℕ → Bool

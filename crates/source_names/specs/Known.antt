@@ -2,13 +2,13 @@
 use Rattle.std.specs.Prelude.{ℕ, suc, ◌+◌, ◌*◌, ◌-◌, ◌/◌, ◌%◌, Bool, true, false, ◌&&◌, List, [], ◌∷◌, length, get_or, ltb}
 use Rattle.lib_base.specs.Basics.{pick}
 use Rattle.source_language.specs.Tokens.{in_word}
-use Rattle.source_language.specs.Meaning.{NameMeaning, nothing, aParameter}
+use Rattle.source_language.specs.Meaning.{NameMeaning, nothing, a_parameter}
 use Rattle.source_coding.specs.Places.{behaviour_or_row}
 use Rattle.source_names.specs.Search.{found_in}
 
 -- below 128 a parameter's number; else the number of a behaviour or of a row's first cell, and 128 for each cell
 abbrev pub number_means : ℕ → NameMeaning
-number_means m = pick (ltb m 128) (aParameter m) (behaviour_or_row (m % 128) (m / 128))
+number_means m = pick (ltb m 128) (a_parameter m) (behaviour_or_row (m % 128) (m / 128))
 
 -- bytes of a word alone
 unfoldable pub word_only : List ℕ → Bool

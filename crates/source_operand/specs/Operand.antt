@@ -7,7 +7,7 @@ use Rattle.source_language.specs.Tokens.{SheetToken, number, name, sign, bracket
 use Rattle.source_language.specs.Text.{Phrase}
 use Rattle.source_language.specs.Faults.{outside, OrFault, fault, fine}
 use Rattle.source_language.specs.Limits.{largest}
-use Rattle.source_language.specs.Meaning.{NameMeaning, nothing, aParameter, aBehaviour, a_row}
+use Rattle.source_language.specs.Meaning.{NameMeaning, nothing, a_parameter, a_behaviour, a_row}
 use Rattle.source_language.specs.Reader.{Phrased, bad, got, sign_at, past_sign, number_due, read_constant, cell_of}
 use Rattle.source_coding.specs.FaultWords.{fault_word}
 use Rattle.source_coding.specs.Places.{tokens_from}
@@ -25,8 +25,8 @@ use Rattle.source_operand.specs.declared.Leaf.TheVariants.{Known, Unknown}
 -- a name's meaning, and that its numbers are bytes
 abbrev pub meant_by : Meaning → NameMeaning
 meant_by Nothing = nothing
-meant_by (Parameter i) = aParameter i
-meant_by (Behaviour i) = aBehaviour i
+meant_by (Parameter i) = a_parameter i
+meant_by (Behaviour i) = a_behaviour i
 meant_by (Row i n) = a_row i n
 
 abbrev pub MeaningWithin : Meaning → Type 0

@@ -12,7 +12,7 @@ use Rattle.source_language.specs.Tokens.{same}
 use Rattle.source_language.specs.Text.{TextBehaviour}
 use Rattle.source_language.specs.Faults.{fine}
 use Rattle.source_language.specs.Limits.{body_cells}
-use Rattle.source_language.specs.Meaning.{constant_word, among_players, bits_below, rights_of, NameMeaning, aParameter, found_as, behaviour_named, meaning_of_name, event_named, name_term, cell_term, term_of, clauses_of, item_of, entries_of, signal_of, sheet_of}
+use Rattle.source_language.specs.Meaning.{constant_word, among_players, bits_below, rights_of, NameMeaning, a_parameter, found_as, behaviour_named, meaning_of_name, event_named, name_term, cell_term, term_of, clauses_of, item_of, entries_of, signal_of, sheet_of}
 use Rattle.source_rendering.specs.Describe.{digits, event_name, behaviour_name, parameter_name, described_constant, cell_named, phrase_of, described_reactions, described_body, players_from, players_in, described_behaviours, described_events, parameters_from, text_of}
 use Rattle.spec_language.specs.Sheet.{params_of, params_of_clauses, params_of_item, params_of_entries}
 use Rattle.source_language.proofs.Scans.{same_is, same_self}
@@ -47,7 +47,7 @@ same_number a m n h =
 
 -- ---- what is found
 
-pub parameter_back : (bs : List TextBehaviour) (k i n : ℕ) → i ≤ n → n < i + k → meaning_of_name i (parameters_from k i) bs (parameter_name n) ≡ aParameter n
+pub parameter_back : (bs : List TextBehaviour) (k i n : ℕ) → i ≤ n → n < i + k → meaning_of_name i (parameters_from k i) bs (parameter_name n) ≡ a_parameter n
 unfolding meaning_of_name parameters_from
 parameter_back bs zero i n l h = absurd (omega arith)
 parameter_back bs (suc k) i n l h =
@@ -107,7 +107,7 @@ module _ (all : List Entry) (find : List ℕ → NameMeaning) (c n : ℕ) where
 
 -- ---- formulas
 
-module _ (xs : List Entry) (find : List ℕ → NameMeaning) (c m p : ℕ) (v : ℕ → ℕ) (params : (n : ℕ) → n < p → find (parameter_name n) ≡ aParameter n)
+module _ (xs : List Entry) (find : List ℕ → NameMeaning) (c m p : ℕ) (v : ℕ → ℕ) (params : (n : ℕ) → n < p → find (parameter_name n) ≡ a_parameter n)
     (variables : (i : ℕ) → i < m → term_of find c (cell_named 0 xs i) ≡ fine (variable i)) where
   term_back : {k : ℕ} {x : Term} → TermFits k x → NamesIn m (fill_term v x) → params_of x ≤ p → term_of find c (phrase_of xs x) ≡ fine x
   unfolding term_of phrase_of fill_term params_of
@@ -134,7 +134,7 @@ signals_back i (x ∷ xs) f = rw (rights_back x.sender f.0.1, signals_back (suc 
 
 -- ---- the sheet
 
-module _ (xs : List Entry) (rs : List Signal) (find : List ℕ → NameMeaning) (m p : ℕ) (v : ℕ → ℕ) (params : (n : ℕ) → n < p → find (parameter_name n) ≡ aParameter n)
+module _ (xs : List Entry) (rs : List Signal) (find : List ℕ → NameMeaning) (m p : ℕ) (v : ℕ → ℕ) (params : (n : ℕ) → n < p → find (parameter_name n) ≡ a_parameter n)
     (variables : (c i : ℕ) → i < m → term_of find c (cell_named 0 xs i) ≡ fine (variable i)) where
   clauses_back : (c : ℕ) (cs : List Clause) → ClausesFit (length rs) cs → All (HandlerNamesIn m) (fill_clauses v cs) → params_of_clauses cs ≤ p
       → clauses_of (described_events 0 rs) find c (described_reactions xs cs) ≡ fine cs
