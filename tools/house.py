@@ -87,9 +87,10 @@ def names_declared_twice(theories):
 # the tokens of one are a list of numbers, of the other places in the text, and the faults differ. `push`: the stack of a
 # round is bytes in a measured loop, that of starts an array of words. `put_result`: what is too long for the caller's
 # buffer is refused by each call's own number, and describe writes there without a copy. `cells_at`: at the front of what
-# is left, and at a place of a sheet.
+# is left, and at a place of a sheet. `byte_at` of source_tokens passes on that of text_marks.
 SAME_MEANING = {
-    *("argument", "cells_at", "choice", "close", "ended", "mark_at", "push", "put_result", "token_at", "under", "word_at"),
+    "argument", "byte_at", "cells_at", "choice", "close", "ended", "mark_at", "push", "put_result", "token_at",
+    "under", "word_at",
 }
 
 
