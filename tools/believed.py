@@ -43,6 +43,8 @@ CALLS = (
 )
 NAMES_ONLY = {f"{call}_on" for call in CALLS.split()} | {"table_of"}
 COLUMNS = 160
+# an import, or the cases of a type that hold nothing: read name by name, however many there are
+LISTS_NAMES = re.compile(r"(?:pub )?use |\s+(?:[\w']+ )+: \w+$")
 # the library's names with more than one word
 MIXFIX = ("if◌then◌else◌",)
 
@@ -338,7 +340,7 @@ def faults_in_files(believed, seen):
             beside = [d for d in source.declarations if d not in reached or d.name in NAMES_ONLY]
             yield from (f"{path}: {d.name} stands in a believed file, and nothing reaches it but as a name" for d in beside)
         for number, line in enumerate(source.lines, 1):
-            if len(line) > COLUMNS and not line.startswith(("use ", "pub use ")):
+            if len(line) > COLUMNS and not LISTS_NAMES.match(line):
                 yield f"{path}:{number}: a believed file with a line of {len(line)} columns"
 
 
