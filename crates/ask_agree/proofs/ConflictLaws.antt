@@ -1,16 +1,15 @@
 -- The first conflict on the sets that the code gathers is that of the program: answer by answer.
-use Rattle.lib_base.proofs.Prelude.{ℕ, ◌<◌, ◌+◌, ◌-◌, ◌≡◌, ◌∙◌, sym, ap, Bool, ◌≢◌, List, get_or, eqb, sub-zero, ne_eqb}
+use Rattle.lib_base.proofs.Prelude.{ℕ, ◌<◌, ◌+◌, ◌-◌, ◌≡◌, ◌∙◌, ap, Bool, ◌≢◌, List, get_or, eqb, sub-zero, ne_eqb}
 use Rattle.lib_base.proofs.Prelude.{eq-eqb, arith}
 use Rattle.lib_base.specs.Basics.{pick}
 use Rattle.lib_bits.specs.Bits.{bit}
-use Rattle.lib_bits.proofs.BitLaws.{bit_none}
 use Rattle.spec_language.specs.Syntax.{Program}
 use Rattle.spec_language.specs.Dependence.{size, events, writes}
 use Rattle.draft_form.specs.Draft.{DraftOf, Drafted}
 use Rattle.spec_language.specs.Fits.{Fits}
 use Rattle.check_reads.specs.Sets.{writes_on, named_on, WritesIn, NamedIn}
 use Rattle.check_reads.specs.Named.{named_by}
-use Rattle.check_reads.proofs.FirstLaws.{first_same, first_none}
+use Rattle.check_reads.proofs.FirstLaws.{first_same}
 use Rattle.check_reads.proofs.Agrees.{writes_are, named_are}
 use Rattle.back_compile.specs.Number.{number_on}
 use Rattle.back_compile.specs.Judged.{Passes}
@@ -18,13 +17,6 @@ use Rattle.back_compile.proofs.Judging.{passes_number}
 use Rattle.ask_agree.specs.Answer.{packed_difference}
 use Rattle.ask_agree.specs.Conflict.{clash, least_in, conflict_at, conflict_with, conflict_from, conflict_by, conflict_on, member}
 use Rattle.ask_agree.specs.Agree.{clashes, clash_of, clash_from, clash_in, agree_on}
-
--- ---- the least in a set
-
-pub least_none : (set n e f : ℕ) → set ≡ 0 → 0 ≡ least_in set n e f
-unfolding least_in
-least_none set n e f h =
-    sym (first_none n 0 (λ i. pick (bit set i) (packed_difference e f i) 0) (λ i a b. rw (h, bit_none i)))
 
 pub packed_some : (e f i : ℕ) → packed_difference e f i ≡ 0 → ⊥
 unfolding packed_difference

@@ -1,7 +1,7 @@
 -- The answer is 0 exactly if all declared events of unequal rank are independent, and what it names is true: each test
 -- decides what it is named for, and the first answer that is not 0 is the least.
 use Rattle.lib_base.proofs.Prelude.{ℕ, ◌≤◌, ◌<◌, ◌+◌, ◌-◌, ◌≡◌, refl, ◌∙◌, sym, ap, true, false, Bool, ◌||◌, false≢true}
-use Rattle.lib_base.proofs.Prelude.{true≢false, ◌&&◌, and-eq-true_iff, or-true, ◌≢◌, by_cases, ◌⊎◌, ⊎_elim, [], get_or}
+use Rattle.lib_base.proofs.Prelude.{true≢false, ◌&&◌, and-eq-true_iff, or-true, ◌≢◌, by_cases, ⊎_elim, [], get_or}
 use Rattle.lib_base.proofs.Prelude.{List·getD-eq-default, eqb, dec_lt, ne_eqb, eqb-false, arith}
 use Rattle.lib_base.specs.Basics.{pick, All}
 use Rattle.lib_base.proofs.Tools.{by_test, split, or_either, chosen, not_chosen, passed}

@@ -4,16 +4,18 @@
 
 #![tactic(auto)]
 
-ghost use Rattle.std.specs.Prelude.{◌≡◌, ◌&&◌, ◌||◌, ℕ, ◌+◌, ◌-◌, ◌≤◌, ◌<◌, length, get_or};
+ghost use Rattle.std.specs.Prelude.{◌≡◌, ◌&&◌, ◌||◌, ℕ, ◌+◌, ◌-◌, ◌≤◌, ◌<◌, get_or};
 ghost use Rattle.lib_bits.specs.Bits.{bit};
-ghost use Rattle.draft_form.specs.Draft.{draft_length};
 ghost use Rattle.check_faults.specs.Checks.{AllInside};
+ghost use Rattle.ask_agree.specs.Told.{told_difference};
 ghost use Rattle.ask_agree.specs.Conflict.{clash, least_in, conflict_with, conflict_from, conflict_by, conflict_on, member};
 ghost use Rattle.ask_agree.specs.Agree.{agree_on};
 ghost use Rattle.spec_language.specs.Limits.{behaviour_limit, event_limit};
 
 use back_compile::Judgement;
-use draft_form::layout;
+use check_reads::Sets;
+use draft_form::{Draft, layout};
+use spec_language::limits;
 
 // The answer: this number, and the first event, the second and a behaviour, each in bits of its own.
 const PHONES_MAY_DIFFER: u64 = 29;
@@ -23,10 +25,16 @@ const FIRST: u64 = 256;
 const SECOND: u64 = 65536;
 
 const BEHAVIOUR: u64 = 16777216;
-// Where the draft has the priorities; the length of a buffer of a word for each event.
+// Where the draft has the priorities.
 const PRIORITIES: usize = layout::PRIORITIES;
 
-const EVENTS: usize = spec_language::limits::EVENTS;
+// Two events that are not independent, and a behaviour that one writes and the other reads or writes.
+#[derive(Clone, Copy, PartialEq, Eq, Debug, Drop)]
+pub struct Clash {
+    pub first: u8,
+    pub second: u8,
+    pub behaviour: u8,
+}
 
 // What one of two events writes and the other writes or names.
 fn clash_of(we: u64, ne: u64, wf: u64, nf: u64) -> u64
@@ -38,77 +46,88 @@ fn clash_of(we: u64, ne: u64, wf: u64, nf: u64) -> u64
     )
 }
 
-// The least behaviour in the set, with the events; 0 for an empty set.
-pub fn least_in(set: u64, n: usize, e: usize, f: usize) -> u64
+// The least behaviour in the set, with the events.
+pub fn least_in(set: u64, n: usize, e: usize, f: usize) -> Option<Clash>
     requires { (n ≤ behaviour_limit) × (e < event_limit) × (f < event_limit) }
-    ensures { result ≡ least_in set n e f }
+    ensures { told_difference result ≡ least_in set n e f }
 {
-    if set == 0 {
-        return 0;
-    }
-    let mut i = 0;
-    while i < n {
-        if lib_bits::contains(set, i) {
-            return PHONES_MAY_DIFFER + FIRST * e as u64 + SECOND * f as u64 + BEHAVIOUR * i as u64;
+    let Some(i) = check_graph::first_of(set, n) else {
+        return None;
+    };
+    Some(Clash {
+        first: e as u8,
+        second: f as u8,
+        behaviour: i as u8,
+    })
+}
+
+// The answer's number; 0 where none clash.
+#[tactic(auto, unfolding(crate::specs::Answer::packed_difference))]
+pub fn clash_number(clash: Option<Clash>) -> u64
+    ensures { result ≡ told_difference clash }
+{
+    match clash {
+        None => 0,
+        Some(c) => {
+            PHONES_MAY_DIFFER
+                + FIRST * u64::from(c.first)
+                + SECOND * u64::from(c.second)
+                + BEHAVIOUR * u64::from(c.behaviour)
         }
-        i += 1;
     }
-    0
 }
 
 // Whether the events e and f clash, of unequal priority.
-fn clash_with(d: &[u64], writes: &[u64], named: &[u64], n: usize, e: usize, f: usize) -> u64
-    requires { (length d.now ≡ draft_length) × (length writes.now ≡ event_limit) × (length named.now ≡ event_limit) × (n ≤ behaviour_limit)
-        × (e < event_limit) × (f < event_limit) }
-    ensures { result ≡ conflict_with d.now n (member writes.now) (member named.now) e f }
+fn clash_with(d: &Draft, writes: &Sets, named: &Sets, n: usize, e: usize, f: usize) -> Option<Clash>
+    requires { (n ≤ behaviour_limit) × (e < event_limit) × (f < event_limit) }
+    ensures { told_difference result ≡ conflict_with d.now n (member writes.now) (member named.now) e f }
 {
     if d[PRIORITIES + e] == d[PRIORITIES + f] {
-        return 0;
+        return None;
     }
     least_in(clash_of(writes[e], named[e], writes[f], named[f]), n, e, f)
 }
 
 // The first event after e with which it clashes.
-fn clash_from(d: &[u64], writes: &[u64], named: &[u64], n: usize, ev: usize, e: usize) -> u64
-    requires { (length d.now ≡ draft_length) × (length writes.now ≡ event_limit) × (length named.now ≡ event_limit) × (n ≤ behaviour_limit)
-        × (ev ≤ event_limit) × (e < ev) }
-    ensures { result ≡ conflict_from d.now n (member writes.now) (member named.now) ev e }
+fn clash_from(
+    d: &Draft,
+    writes: &Sets,
+    named: &Sets,
+    n: usize,
+    ev: usize,
+    e: usize,
+) -> Option<Clash>
+    requires { (n ≤ behaviour_limit) × (ev ≤ event_limit) × (e < ev) }
+    ensures { told_difference result ≡ conflict_from d.now n (member writes.now) (member named.now) ev e }
 {
-    let mut f = e + 1;
-    while f < ev {
-        let a = clash_with(d, writes, named, n, e, f);
-        if a != 0 {
-            return a;
+    for f in e + 1..ev {
+        if let Some(clash) = clash_with(d, writes, named, n, e, f) {
+            return Some(clash);
         }
-        f += 1;
     }
-    0
+    None
 }
 
 // The first event that clashes with a later one.
-fn clash_by(d: &[u64], writes: &[u64], named: &[u64], n: usize, ev: usize) -> u64
-    requires { (length d.now ≡ draft_length) × (length writes.now ≡ event_limit) × (length named.now ≡ event_limit) × (n ≤ behaviour_limit)
-        × (ev ≤ event_limit) }
-    ensures { result ≡ conflict_by d.now n (member writes.now) (member named.now) ev }
+fn clash_by(d: &Draft, writes: &Sets, named: &Sets, n: usize, ev: usize) -> Option<Clash>
+    requires { (n ≤ behaviour_limit) × (ev ≤ event_limit) }
+    ensures { told_difference result ≡ conflict_by d.now n (member writes.now) (member named.now) ev }
 {
-    let mut e = 0;
-    while e < ev {
-        let a = clash_from(d, writes, named, n, ev, e);
-        if a != 0 {
-            return a;
+    for e in 0..ev {
+        if let Some(clash) = clash_from(d, writes, named, n, ev, e) {
+            return Some(clash);
         }
-        e += 1;
     }
-    0
+    None
 }
 
 // The same on a draft of ev events and n behaviours.
-fn clash_in(d: &[u64], ev: usize, n: usize) -> u64
-    requires { (length d.now ≡ draft_length) × (ev ≤ event_limit) × (n ≤ behaviour_limit) × AllInside d.now ev n }
-    ensures { result ≡ conflict_on d.now ev n }
+fn clash_in(d: &Draft, ev: usize, n: usize) -> Option<Clash>
+    requires { (ev ≤ event_limit) × (n ≤ behaviour_limit) × AllInside d.now ev n }
+    ensures { told_difference result ≡ conflict_on d.now ev n }
 {
-    let mut writes = [0u64; EVENTS];
-    let mut named = [0u64; EVENTS];
+    let mut writes = [0u64; limits::EVENTS];
+    let mut named = [0u64; limits::EVENTS];
     check_reads::fill_writes(d, ev, n, &mut writes);
     check_reads::fill_named(d, ev, n, &mut named);
     clash_by(d, &writes, &named, n, ev)
@@ -125,5 +144,5 @@ pub fn agree_at(sheet: &[u8], params: &[u8]) -> u64
     let Judgement::Accepted(events, behaviours) = judgement else {
         return back_compile::judgement_number(judgement) as u64;
     };
-    clash_in(&draft, events, behaviours)
+    clash_number(clash_in(&draft, events, behaviours))
 }

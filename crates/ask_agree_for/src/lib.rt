@@ -4,18 +4,21 @@
 
 #![tactic(auto)]
 
-ghost use Rattle.std.specs.Prelude.{◌≡◌, ◌&&◌, ◌||◌, ℕ, ◌+◌, ◌-◌, ◌≤◌, ◌<◌, length, get_or};
+ghost use Rattle.std.specs.Prelude.{◌≡◌, ◌&&◌, ◌||◌, ℕ, ◌+◌, ◌-◌, ◌≤◌, ◌<◌, get_or};
 ghost use Rattle.lib_bits.specs.Bits.{bit};
 ghost use Rattle.spec_language.specs.Syntax.{Program};
-ghost use Rattle.draft_form.specs.Draft.{draft_length};
 ghost use Rattle.check_faults.specs.Checks.{AllInside};
+ghost use Rattle.ask_agree.specs.Told.{told_difference};
 ghost use Rattle.ask_meets.specs.Meeting.{meeting, in_cone};
 ghost use Rattle.ask_agree_for.specs.Encounter.{encounter_with, encounter_from, encounter_by, priority_on, met_by, DraftFor};
 ghost use Rattle.ask_agree_for.specs.AgreeFor.{encounter_in, agree_for_in, agree_for_on};
 ghost use Rattle.spec_language.specs.Limits.{behaviour_limit, event_limit};
 
+use ask_agree::Clash;
 use back_compile::Judgement;
-use draft_form::layout;
+use check_graph::ROW;
+use check_reads::Sets;
+use draft_form::{Draft, layout};
 use spec_language::{answers, limits};
 
 const PRIORITIES: usize = layout::PRIORITIES;
@@ -32,20 +35,19 @@ fn meet_of(cone: u64, we: u64, se: u64, wf: u64, sf: u64) -> u64
 
 // Whether the events e and f meet, of unequal priority.
 fn meet_with(
-    d: &[u64],
-    writes: &[u64],
-    strict: &[u64],
+    d: &Draft,
+    writes: &Sets,
+    strict: &Sets,
     cone: u64,
     n: usize,
     e: usize,
     f: usize,
-) -> u64
-    requires { (length d.now ≡ draft_length) × (length writes.now ≡ event_limit) × (length strict.now ≡ event_limit) × (n ≤ behaviour_limit)
-        × (e < event_limit) × (f < event_limit) }
-    ensures { result ≡ encounter_with (priority_on d.now) n (met_by cone writes.now strict.now) e f }
+) -> Option<Clash>
+    requires { (n ≤ behaviour_limit) × (e < event_limit) × (f < event_limit) }
+    ensures { told_difference result ≡ encounter_with (priority_on d.now) n (met_by cone writes.now strict.now) e f }
 {
     if d[PRIORITIES + e] == d[PRIORITIES + f] {
-        return 0;
+        return None;
     }
     ask_agree::least_in(
         meet_of(cone, writes[e], strict[e], writes[f], strict[f]),
@@ -57,52 +59,44 @@ fn meet_with(
 
 // The first event after e that it meets.
 fn meet_from(
-    d: &[u64],
-    writes: &[u64],
-    strict: &[u64],
+    d: &Draft,
+    writes: &Sets,
+    strict: &Sets,
     cone: u64,
     n: usize,
     ev: usize,
     e: usize,
-) -> u64
-    requires { (length d.now ≡ draft_length) × (length writes.now ≡ event_limit) × (length strict.now ≡ event_limit) × (n ≤ behaviour_limit)
-        × (ev ≤ event_limit) × (e < ev) }
-    ensures { result ≡ encounter_from (priority_on d.now) n (met_by cone writes.now strict.now) ev e }
+) -> Option<Clash>
+    requires { (n ≤ behaviour_limit) × (ev ≤ event_limit) × (e < ev) }
+    ensures { told_difference result ≡ encounter_from (priority_on d.now) n (met_by cone writes.now strict.now) ev e }
 {
-    let mut f = e + 1;
-    while f < ev {
-        let a = meet_with(d, writes, strict, cone, n, e, f);
-        if a != 0 {
-            return a;
+    for f in e + 1..ev {
+        if let Some(clash) = meet_with(d, writes, strict, cone, n, e, f) {
+            return Some(clash);
         }
-        f += 1;
     }
-    0
+    None
 }
 
 // The first event that meets a later one.
-fn meet_by(d: &[u64], writes: &[u64], strict: &[u64], cone: u64, n: usize, ev: usize) -> u64
-    requires { (length d.now ≡ draft_length) × (length writes.now ≡ event_limit) × (length strict.now ≡ event_limit) × (n ≤ behaviour_limit)
-        × (ev ≤ event_limit) }
-    ensures { result ≡ encounter_by (priority_on d.now) n (met_by cone writes.now strict.now) ev }
+fn meet_by(d: &Draft, writes: &Sets, strict: &Sets, cone: u64, n: usize, ev: usize) -> Option<Clash>
+    requires { (n ≤ behaviour_limit) × (ev ≤ event_limit) }
+    ensures { told_difference result ≡ encounter_by (priority_on d.now) n (met_by cone writes.now strict.now) ev }
 {
-    let mut e = 0;
-    while e < ev {
-        let a = meet_from(d, writes, strict, cone, n, ev, e);
-        if a != 0 {
-            return a;
+    for e in 0..ev {
+        if let Some(clash) = meet_from(d, writes, strict, cone, n, ev, e) {
+            return Some(clash);
         }
-        e += 1;
     }
-    0
+    None
 }
 
 // The same on a draft of ev events and n behaviours, in what behaviour b depends on.
-fn meet_in(d: &[u64], ev: usize, n: usize, b: usize) -> u64
-    requires { (length d.now ≡ draft_length) × (ev ≤ event_limit) × (n ≤ behaviour_limit) × (b < n) × AllInside d.now ev n }
-    ensures { (p : Program) → DraftFor p d.now ev n → result ≡ encounter_in p (in_cone p b) }
+fn meet_in(d: &Draft, ev: usize, n: usize, b: usize) -> Option<Clash>
+    requires { (ev ≤ event_limit) × (n ≤ behaviour_limit) × (b < n) × AllInside d.now ev n }
+    ensures { (p : Program) → DraftFor p d.now ev n → told_difference result ≡ encounter_in p (in_cone p b) }
 {
-    let mut rows = [0u64; limits::BEHAVIOURS];
+    let mut rows = [0u64; ROW];
     let mut writes = [0u64; limits::EVENTS];
     let mut strict = [0u64; limits::EVENTS];
     let cone = ask_meets::cone_of(d, ev, n, b);
@@ -113,14 +107,14 @@ fn meet_in(d: &[u64], ev: usize, n: usize, b: usize) -> u64
 }
 
 // The answer for a sheet that compile accepts.
-fn agree_for_of(d: &[u64], ev: usize, n: usize, behaviour: u32) -> u64
-    requires { (length d.now ≡ draft_length) × (ev ≤ event_limit) × (n ≤ behaviour_limit) × AllInside d.now ev n }
+fn agree_for_of(d: &Draft, ev: usize, n: usize, behaviour: u32) -> u64
+    requires { (ev ≤ event_limit) × (n ≤ behaviour_limit) × AllInside d.now ev n }
     ensures { (p : Program) → DraftFor p d.now ev n → result ≡ agree_for_in p behaviour }
 {
     if n <= behaviour as usize {
         return answers::NO_BEHAVIOUR;
     }
-    meet_in(d, ev, n, behaviour as usize)
+    ask_agree::clash_number(meet_in(d, ev, n, behaviour as usize))
 }
 
 // compile's number, as with a full table; 18 for a number that is no behaviour's; 0 where no two declared events of

@@ -1,9 +1,8 @@
 -- What is found on the draft, its parameters filled in, is a shortest circle of the sheet's program: the matrix is its
 -- dependence (crate check_faults), and a shortest circle has distinct members. That the draft is the program's is what
 -- the judging tells (crate back_compile).
-use Rattle.lib_base.proofs.Prelude.{ℕ, ◌≤◌, ◌<◌, ◌≡◌, ◌∙◌, sym, ap, subst, true, Bool, ◌⊎◌, ⊎_elim, List, [], ◌∷◌}
+use Rattle.lib_base.proofs.Prelude.{ℕ, ◌≤◌, ◌<◌, ◌≡◌, refl, ◌∙◌, sym, ap, subst, true, Bool, ⊎_elim, List, [], ◌∷◌}
 use Rattle.lib_base.proofs.Prelude.{List-as-Nodup, length, arith}
-use denote.Enum.Declared.{tag_of}
 use Rattle.spec_language.specs.Syntax.{Program}
 use Rattle.spec_language.specs.Dependence.{size, events, no_event, depends_on}
 use Rattle.spec_language.specs.Fits.{Fits}
@@ -11,8 +10,8 @@ use Rattle.spec_language.specs.Accepted.{Known}
 use Rattle.spec_language.specs.Reading.{got}
 use Rattle.spec_language.proofs.Laws.{depends_within}
 use Rattle.spec_grammar.proofs.Programs.{reads_back}
-use Rattle.draft_form.specs.Draft.{draft_length, Drafted, DraftOf}
-use Rattle.draft_form.proofs.DraftLaws.{draft_long, draft_events, draft_behaviours}
+use Rattle.draft_form.specs.Draft.{Drafted, DraftOf}
+use Rattle.draft_form.proofs.DraftLaws.{draft_events, draft_behaviours}
 use Rattle.check_graph.specs.Matrix.{cell, cell_below}
 use Rattle.check_graph.proofs.Closure.{below_is}
 use Rattle.check_faults.specs.Faults.{known}
@@ -29,7 +28,6 @@ use Rattle.back_compile.specs.Compiled.{program_of}
 use Rattle.back_compile.specs.Judged.{CircleDraft, JudgedAs, answer_of}
 use Rattle.back_compile.specs.declared.Judgement.{Judgement}
 use Rattle.back_compile.specs.declared.Judgement.TheVariants.{Accepted, Circular, Refused}
-use Rattle.back_compile.specs.contracts.Judgement.{the_type}
 use Rattle.back_compile.proofs.Judging.{turns_number, judged_number}
 use Rattle.ask_circle.specs.Witness.{list_answer, CircleListed, Witnessed}
 
@@ -84,8 +82,8 @@ listed_on {ev} {bs} {n} {d} c k f = listed_in c.program d n c.drafted c.fits ((k
 
 -- ---- the judging told
 
--- no circle, by the judgement's tag
-pub not_circular : (s ps d list : List ℕ) (a : Judgement) → JudgedAs s ps d a → (tag_of the_type a ≡ 0) ⊎ (tag_of the_type a ≡ 2) → {r : ℕ} → r ≡ answer_of a
+-- no circle, by the judgement
+pub not_circular : (s ps d list : List ℕ) (a : Judgement) → JudgedAs s ps d a → ((ev bs : ℕ) → a ≡ Circular ev bs → ⊥) → {r : ℕ} → r ≡ answer_of a
     → Witnessed s ps list r list
 not_circular s ps d list a h n {r} q =
     let e : r ≡ number_on s ps = judged_number s ps d a h q in
@@ -94,14 +92,14 @@ not_circular s ps d list a h n {r} q =
       circular = λ m. absurd (no_twelve a h n (sym q ∙ e ∙ m));
     }
   where
-    no_twelve : (a : Judgement) → JudgedAs s ps d a → (tag_of the_type a ≡ 0) ⊎ (tag_of the_type a ≡ 2) → answer_of a ≡ 12 → ⊥
+    no_twelve : (a : Judgement) → JudgedAs s ps d a → ((ev bs : ℕ) → a ≡ Circular ev bs → ⊥) → answer_of a ≡ 12 → ⊥
     no_twelve (Accepted ev bs) h n z = omega arith
-    no_twelve (Circular ev bs) h n z = ⊎_elim (λ x. omega arith) (λ x. omega arith) n
+    no_twelve (Circular ev bs) h n z = absurd (n ev bs refl)
     no_twelve (Refused k) h n z = h.finding.other z
 
 module _ (s ps : List ℕ) {ev bs : ℕ} {d : List ℕ} (w : CircleDraft s ps ev bs d) where
-  pub turns_draft : (length d ≡ draft_length) × (ev ≤ 32) × (bs ≤ 64) × AllInside d ev bs
-  turns_draft = let c = w.drafts.draft in (draft_long c, draft_events c, draft_behaviours c, draft_inside c)
+  pub turns_draft : (ev ≤ 32) × (bs ≤ 64) × AllInside d ev bs
+  turns_draft = let c = w.drafts.draft in (draft_events c, draft_behaviours c, draft_inside c)
 
   -- the matrices are whole, and one of them has a circle
   pub turns_wide : Wide d ev bs × (cyclic_on d ev bs ≡ true)

@@ -1,19 +1,19 @@
 -- The first name of a hidden behaviour on the sets that the code gathers is that of the program: answer by answer.
 use Rattle.lib_base.proofs.Prelude.{ℕ, ◌≤◌, ◌<◌, ◌+◌, ◌-◌, ◌%◌, ◌/◌, ◌^◌, ◌≡◌, refl, ◌∙◌, sym, ap, true, false, Bool}
-use Rattle.lib_base.proofs.Prelude.{◌||◌, ◌&&◌, not, or-false, ◌≢◌, List, eqb, ne_eqb, eq-eqb, arith}
+use Rattle.lib_base.proofs.Prelude.{◌||◌, ◌&&◌, not, or-false, ◌≢◌, List, get_or, eqb, ne_eqb, eq-eqb, arith}
 use Rattle.lib_base.specs.Basics.{pick}
 use Rattle.lib_bits.specs.Bits.{bit, Gathers}
-use Rattle.lib_bits.proofs.BitLaws.{bit_none}
 use Rattle.spec_language.specs.Syntax.{Program}
 use Rattle.spec_language.specs.Rights.{may}
 use Rattle.spec_language.specs.Dependence.{size, events, response}
 use Rattle.spec_language.specs.Fits.{Fits}
-use Rattle.draft_form.specs.Draft.{DraftOf, Drafted}
+use Rattle.draft_form.specs.Draft.{entry_of, used_by, DraftOf, Drafted}
+use Rattle.draft_form.specs.Entry.{entry_start, entry_count}
 use Rattle.check_graph.proofs.Any.{any_same}
 use Rattle.check_reads.specs.First.{first_from}
-use Rattle.check_reads.specs.Sets.{names_on}
+use Rattle.check_reads.specs.Sets.{named_among, names_on}
 use Rattle.check_reads.specs.InResponse.{in_response}
-use Rattle.check_reads.proofs.FirstLaws.{first_same, first_none}
+use Rattle.check_reads.proofs.FirstLaws.{first_same}
 use Rattle.check_reads.proofs.Agrees.{names_are}
 use Rattle.back_compile.specs.Number.{number_on}
 use Rattle.back_compile.specs.Judged.{Passes}
@@ -41,9 +41,6 @@ pub packed_some : (i j : ℕ) → packed_leak i j ≡ 0 → ⊥
 unfolding packed_leak
 packed_some i j h = omega arith
 
-pub least_none : (set n i : ℕ) → set ≡ 0 → 0 ≡ first_from n 0 (λ j. pick (bit set j) (packed_leak i j) 0)
-least_none set n i h = sym (first_none n 0 (λ j. pick (bit set j) (packed_leak i j) 0) (λ j a b. rw (h, bit_none j)))
-
 pub from_hidden : (n : ℕ) (hidden : ℕ → Bool) (names : ℕ → ℕ → Bool) (i : ℕ) → hidden i ≡ true → 0 ≡ leak_from n hidden names i
 unfolding leak_from
 from_hidden n hidden names i h = rw h
@@ -53,6 +50,18 @@ pub from_seen : (n hidden : ℕ) (names : ℕ → ℕ → Bool) (i set shared r 
 unfolding leak_from leak_at
 from_seen n hidden names i set shared r few h g c q =
     rw h (q ∙ first_same n 0 (λ j. pick (bit shared j) (packed_leak i j) 0) (leak_at n (bit hidden) names i) (λ j a b. rw (c j, g j (omega arith))))
+
+-- behaviour i hidden from the player, put in
+pub hidden_put : (d : List ℕ) (player j set next : ℕ) → ((h : ℕ) → bit next h ≡ bit set h || (not (may (get_or d (4256 + j) 0) player) && eqb h j))
+    → (h : ℕ) → h < 64 → bit next h ≡ bit set h || (hidden_on d player j && eqb h j)
+unfolding hidden_on
+hidden_put d player j set next f h b = f h
+
+-- the names in its entry on event e
+pub names_joined : (d : List ℕ) (i e set names next : ℕ) {v : ℕ} → v ≡ entry_of d e i → Gathers 64 names (λ j. named_among (used_by d i) j (entry_start v) (entry_count v))
+    → ((j : ℕ) → bit next j ≡ bit set j || bit names j) → (j : ℕ) → j < 64 → bit next j ≡ bit set j || names_on d e i j
+unfolding names_on
+names_joined d i e set names next q g f j b = rw (← q, ← g j b) (f j)
 
 -- ---- the same sets, the same answer
 

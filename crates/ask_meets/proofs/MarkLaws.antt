@@ -1,5 +1,5 @@
 -- The code's branches on marks and sets, over plain variables.
-use Rattle.lib_base.proofs.Prelude.{ℕ, ◌≤◌, ◌<◌, suc, zero, ◌*◌, ◌%◌, ◌/◌, ◌^◌, ◌≡◌, refl, ◌∙◌, sym, ap, true, false}
+use Rattle.lib_base.proofs.Prelude.{ℕ, ◌≤◌, ◌<◌, ◌+◌, add-one, suc, zero, ◌*◌, ◌%◌, ◌/◌, ◌^◌, ◌≡◌, refl, ◌∙◌, sym, ap, true, false}
 use Rattle.lib_base.proofs.Prelude.{Bool, ◌||◌, true≢false, ◌&&◌, not, or-false, or-true, and-false, and-true, ◌≢◌}
 use Rattle.lib_base.proofs.Prelude.{List, length, get_or, List·getD-eq-default, eqb, ne_eqb, eqb-true, eq-eqb, eqb-false}
 use Rattle.lib_base.proofs.Prelude.{arith}
@@ -10,8 +10,10 @@ use Rattle.lib_base.specs.Basics.{pick}
 use Rattle.lib_base.proofs.Tools.{split, by_test}
 use Rattle.lib_signature.specs.Numbers.{not_fn, if_fn}
 use Rattle.lib_bits.specs.Bits.{bit}
+use Rattle.draft_form.specs.Draft.{moved, used_by}
+use Rattle.draft_form.proofs.DraftLaws.{used_at}
 use Rattle.lib_bits.proofs.BitLaws.{bit_none, bit_one}
-use Rattle.ask_meets.specs.Marks.{name_mark, one_mark, two_mark, if_mark, push_mark, applied_mark}
+use Rattle.ask_meets.specs.Marks.{name_mark, one_mark, two_mark, if_mark, push_mark, applied_mark, mark_step, marks_among}
 
 -- ---- names
 
@@ -36,6 +38,15 @@ applied_if f s m r n h q e = rw (ne_eqb f not_fn n, eq-eqb f if_fn h, ← q) e
 pub applied_two : (f s m r : ℕ) → (f ≡ not_fn → ⊥) → (f ≡ if_fn → ⊥) → m ≡ two_mark f (s / 4 % 4) (s % 4) → r ≡ push_mark (s / 16) m → r ≡ applied_mark f s
 unfolding applied_mark
 applied_two f s m r n h q e = rw (ne_eqb f not_fn n, ne_eqb f if_fn h, ← q) e
+
+-- ---- nodes
+
+-- node k of those from `start` on, as behaviour i means it
+pub node_marked : (d rows : List ℕ) (i start k : ℕ) {s x next : ℕ} → s ≡ marks_among (λ j. bit (get_or rows j 0) i) i (used_by d i) start k
+    → x ≡ moved d i (get_or d (start + k) 0) → next ≡ mark_step (λ j. bit (get_or rows j 0) i) i s x
+    → next ≡ marks_among (λ j. bit (get_or rows j 0) i) i (used_by d i) start (k + 1)
+unfolding marks_among
+node_marked d rows i start k t q e = rw (add-one k, e, q, t, used_at d i (start + k))
 
 -- ---- a set without a number
 

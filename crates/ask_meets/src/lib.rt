@@ -4,10 +4,10 @@
 
 #![tactic(auto)]
 
-ghost use Rattle.std.specs.Prelude.{◌≡◌, not, ◌&&◌, ◌||◌, ℕ, ◌+◌, ◌≤◌, ◌<◌, length, get_or, eqb, leb};
+ghost use Rattle.std.specs.Prelude.{◌≡◌, not, ◌&&◌, ◌||◌, ℕ, ◌+◌, ◌≤◌, ◌<◌, get_or, eqb, leb};
 ghost use Rattle.lib_base.specs.Basics.{pick};
 ghost use Rattle.lib_bits.specs.Bits.{bit, Gathers};
-ghost use Rattle.draft_form.specs.Draft.{draft_length, used_by, entry_of};
+ghost use Rattle.draft_form.specs.Draft.{entry_of};
 ghost use Rattle.draft_form.specs.Entry.{entry_kind, entry_start, entry_count};
 ghost use Rattle.check_faults.specs.Checks.{RowsInside, AllInside};
 ghost use Rattle.check_reads.specs.Sets.{RowsBy};
@@ -18,7 +18,9 @@ ghost use Rattle.ask_meets.specs.MarkCount.{mark_count};
 ghost use Rattle.draft_form.specs.Sizes.{draft_nodes};
 ghost use Rattle.spec_language.specs.Limits.{behaviour_limit, event_limit};
 
-use draft_form::layout;
+use check_graph::ROW;
+use check_reads::Sets;
+use draft_form::{Draft, layout};
 use lib_signature::functions;
 use spec_language::limits;
 
@@ -42,8 +44,8 @@ const MARKS: u64 = 4;
 const ROOM: u64 = 4611686018427387904;
 
 // Of name j, toward behaviour b.
-fn name_mark(rows: &[u64], b: usize, j: u64) -> u64
-    requires { (length rows.now ≡ behaviour_limit) × (b < behaviour_limit) }
+fn name_mark(rows: &[u64; ROW], b: usize, j: u64) -> u64
+    requires { b < behaviour_limit }
     ensures value { result ≡ name_mark (λ k. bit (get_or rows.now k 0) b) b j }
     ensures upper_bound { result < mark_count }
 {
@@ -136,8 +138,8 @@ fn apply_mark(f: u64, s: u64) -> u64
 }
 
 // Node x, toward behaviour b.
-fn mark_node(rows: &[u64], b: usize, s: u64, x: u64) -> u64
-    requires { (length rows.now ≡ behaviour_limit) × (b < behaviour_limit) }
+fn mark_node(rows: &[u64; ROW], b: usize, s: u64, x: u64) -> u64
+    requires { b < behaviour_limit }
     ensures { result ≡ mark_step (λ k. bit (get_or rows.now k 0) b) b s x }
 {
     if x / layout::WORD == layout::NAME {
@@ -150,17 +152,15 @@ fn mark_node(rows: &[u64], b: usize, s: u64, x: u64) -> u64
 }
 
 // The mark of the expression of entry v of behaviour i, toward i.
-fn mark_in(d: &[u64], rows: &[u64], i: usize, v: u64) -> u64
-    requires { (length d.now ≡ draft_length) × (length rows.now ≡ behaviour_limit) × (i < behaviour_limit) × (entry_start v + entry_count v ≤ draft_nodes) }
+fn mark_in(d: &Draft, rows: &[u64; ROW], i: usize, v: u64) -> u64
+    requires { (i < behaviour_limit) × (entry_start v + entry_count v ≤ draft_nodes) }
     ensures { result ≡ mark_in d.now rows.now i v }
 {
     let start = (v / layout::KINDS % layout::FIRSTS) as usize;
     let count = (v / layout::COUNTS) as usize;
     let mut s = 0;
-    let mut k = 0;
-    while k < count {
-        s = mark_node(rows, i, s, draft_form::moved_node(d, i, d[start + k]));
-        k += 1;
+    for node in &d[start..start + count] {
+        s = mark_node(rows, i, s, draft_form::moved_node(d, i, *node));
     }
     s
 }
@@ -188,9 +188,8 @@ fn with_member(set: u64, i: usize, there: bool) -> u64
 }
 
 // What an event is strict about by its handler of i, whose entry is v.
-fn strict_at(d: &[u64], rows: &[u64], n: usize, i: usize, v: u64) -> u64
-    requires { (length d.now ≡ draft_length) × (length rows.now ≡ behaviour_limit) × (n ≤ behaviour_limit) × (i < behaviour_limit)
-        × (entry_start v + entry_count v ≤ draft_nodes) }
+fn strict_at(d: &Draft, rows: &[u64; ROW], n: usize, i: usize, v: u64) -> u64
+    requires { (n ≤ behaviour_limit) × (i < behaviour_limit) × (entry_start v + entry_count v ≤ draft_nodes) }
     ensures { (e : ℕ) → v ≡ entry_of d.now e i → Gathers behaviour_limit result (strict_at_on d.now rows.now n e i) }
 {
     let names = check_reads::add_rows(rows, check_reads::names_in(d, i, v), n);
@@ -198,9 +197,8 @@ fn strict_at(d: &[u64], rows: &[u64], n: usize, i: usize, v: u64) -> u64
 }
 
 // The set with that, where the entry is a handler of one of the others.
-fn add_strict(d: &[u64], rows: &[u64], n: usize, set: u64, cone: u64, i: usize, v: u64) -> u64
-    requires { (length d.now ≡ draft_length) × (length rows.now ≡ behaviour_limit) × (n ≤ behaviour_limit) × (i < behaviour_limit)
-        × (entry_start v + entry_count v ≤ draft_nodes) }
+fn add_strict(d: &Draft, rows: &[u64; ROW], n: usize, set: u64, cone: u64, i: usize, v: u64) -> u64
+    requires { (n ≤ behaviour_limit) × (i < behaviour_limit) × (entry_start v + entry_count v ≤ draft_nodes) }
     ensures { (e : ℕ) → v ≡ entry_of d.now e i
         → Gathers behaviour_limit result (λ j. bit set j
         || ((bit cone i && leb 2 (entry_kind v)) && strict_at_on d.now rows.now n e i j)) }
@@ -214,50 +212,43 @@ fn add_strict(d: &[u64], rows: &[u64], n: usize, set: u64, cone: u64, i: usize, 
 }
 
 // What event e is strict about, by its handlers of n behaviours that are in the cone.
-fn strict_of(d: &[u64], rows: &[u64], n: usize, cone: u64, e: usize) -> u64
-    requires { (length d.now ≡ draft_length) × (length rows.now ≡ behaviour_limit) × (n ≤ behaviour_limit) × (e ≤ event_limit) × RowsInside d.now e n }
+fn strict_of(d: &Draft, rows: &[u64; ROW], n: usize, cone: u64, e: usize) -> u64
+    requires { (n ≤ behaviour_limit) × (e ≤ event_limit) × RowsInside d.now e n }
     ensures { Gathers behaviour_limit result (strict_on d.now rows.now n cone e) }
 {
     let mut set = 0;
-    let mut i = 0;
-    while i < n {
+    for i in 0..n {
         set = add_strict(d, rows, n, set, cone, i, draft_form::entry_of(d, e, i));
-        i += 1;
     }
     set
 }
 
 // What each of ev events is strict about, where the rows say what is named through passives.
-pub fn fill_strict(d: &[u64], rows: &[u64], n: usize, cone: u64, ev: usize, strict: &mut [u64])
-    requires { (length d.now ≡ draft_length) × (length rows.now ≡ behaviour_limit) × (n ≤ behaviour_limit) × (ev ≤ event_limit)
-        × (length strict.old ≡ event_limit) × AllInside d.now ev n }
+pub fn fill_strict(d: &Draft, rows: &[u64; ROW], n: usize, cone: u64, ev: usize, strict: &mut Sets)
+    requires { (n ≤ behaviour_limit) × (ev ≤ event_limit) × AllInside d.now ev n }
     ensures { StrictSets d.now rows.now n cone ev strict.new }
 {
-    let mut e = 0;
-    while e < ev {
+    for e in 0..ev {
         strict[e] = strict_of(d, rows, n, cone, e);
-        e += 1;
     }
 }
 
 // The names in each of n behaviours.
-fn fill_all_names(d: &[u64], ev: usize, n: usize, rows: &mut [u64])
-    requires { (length d.now ≡ draft_length) × (length rows.old ≡ behaviour_limit) × (ev ≤ event_limit) × (n ≤ behaviour_limit) × AllInside d.now ev n }
+fn fill_all_names(d: &Draft, ev: usize, n: usize, rows: &mut [u64; ROW])
+    requires { (ev ≤ event_limit) × (n ≤ behaviour_limit) × AllInside d.now ev n }
     ensures { RowsBy (names_any d.now ev) n rows.new }
 {
-    let mut i = 0;
-    while i < n {
+    for i in 0..n {
         rows[i] = ask_leak::names_of(d, ev, i, n);
-        i += 1;
     }
 }
 
 // What behaviour b depends on, itself included.
-pub fn cone_of(d: &[u64], ev: usize, n: usize, b: usize) -> u64
-    requires { (length d.now ≡ draft_length) × (ev ≤ event_limit) × (n ≤ behaviour_limit) × (b < n) × AllInside d.now ev n }
+pub fn cone_of(d: &Draft, ev: usize, n: usize, b: usize) -> u64
+    requires { (ev ≤ event_limit) × (n ≤ behaviour_limit) × (b < n) × AllInside d.now ev n }
     ensures { Gathers n result (cone_on d.now ev n b) }
 {
-    let mut rows = [0u64; limits::BEHAVIOURS];
+    let mut rows = [0u64; ROW];
     fill_all_names(d, ev, n, &mut rows);
     check_reads::close_rows(&mut rows, n);
     lib_bits::insert(rows[b], b)

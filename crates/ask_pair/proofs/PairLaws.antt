@@ -1,15 +1,16 @@
 -- The answer on the sets that the code gathers is that of the program: test by test at the behaviour that is told.
 use Rattle.lib_base.proofs.Prelude.{ℕ, ◌≤◌, ◌<◌, ◌+◌, ◌-◌, ◌≡◌, refl, ◌∙◌, sym, ap, true, false, Bool, ◌||◌, ◌&&◌, ◌≢◌}
-use Rattle.lib_base.proofs.Prelude.{List, get_or, eqb, sub-zero, ne_eqb, le-ltb, lt-ltb, eq-eqb, eqb-false, arith}
+use Rattle.lib_base.proofs.Prelude.{List, get_or, eqb, ne_eqb, le-ltb, lt-ltb, eqb-false, arith}
 use Rattle.lib_base.specs.Basics.{pick}
 use Rattle.lib_base.proofs.Tools.{by_two}
 use Rattle.lib_bits.specs.Bits.{bit, Gathers}
 use Rattle.spec_language.specs.Syntax.{Program}
 use Rattle.spec_language.specs.Dependence.{size, events, writes}
-use Rattle.check_reads.specs.First.{first_from}
+use Rattle.std.specs.Prelude.{Some, None}
+use Rattle.check_graph.specs.First.{FirstOf}
 use Rattle.check_reads.specs.Sets.{passive_on, closed_by, RowsBy, WritesIn, NamedIn}
 use Rattle.check_reads.specs.Named.{named_by}
-use Rattle.check_reads.proofs.FirstLaws.{Seeking, seek_on, seek_stop, first_found, first_same}
+use Rattle.check_reads.proofs.FirstLaws.{none_given, first_given, first_found, first_same}
 use Rattle.check_reads.proofs.Agrees.{named_are}
 use Rattle.back_compile.specs.Number.{number_on}
 use Rattle.back_compile.specs.Judged.{Passes}
@@ -23,22 +24,13 @@ use Rattle.ask_pair.specs.Pair.{everyone, weight, least_told, flags_at, packed_p
 
 -- ---- the least
 
-abbrev pub answer : ℕ → ℕ → ℕ
-answer set i = pick (bit set i) (i + 1) 0
-
-pub stop : (set n i r : ℕ) {t : Bool} → Seeking (answer set) 0 n i → i < n → t ≡ bit set i → t ≡ true → r ≡ i + 1 → r ≡ least_told n (bit set)
+pub first_told : (set n i : ℕ) → FirstOf (bit set) n (Some i) → i + 1 ≡ least_told n (bit set)
 unfolding least_told
-stop set n i r t h q s z =
-    let a : answer set i ≡ i + 1 = rw (sym q ∙ s) in
-    let w : r ≡ first_from (n - 0) 0 (answer set) = z ∙ sym a ∙ seek_stop t h (λ k. let m : i + 1 ≡ 0 = sym a ∙ k in omega arith) in
-    rw sub-zero at w
+first_told set n i w = first_given n (bit set) (λ j. j + 1) i w.0 w.1 w.2 (λ z. omega arith)
 
-pub go : (set n i : ℕ) {t : Bool} → Seeking (answer set) 0 n i → i < n → t ≡ bit set i → t ≡ false → Seeking (answer set) 0 n (i + 1)
-go set n i t h q s = seek_on t h (rw (sym q ∙ s))
-
-pub none : (set n r : ℕ) → r ≡ first_from (n - 0) 0 (answer set) → r ≡ least_told n (bit set)
+pub none_told : (set n : ℕ) → FirstOf (bit set) n None → 0 ≡ least_told n (bit set)
 unfolding least_told
-none set n r h = rw sub-zero at h
+none_told set n w = none_given n (bit set) (λ j. j + 1) w
 
 least_same : (n : ℕ) (f g : ℕ → Bool) → ((i : ℕ) → i < n → f i ≡ g i) → least_told n f ≡ least_told n g
 unfolding least_told
@@ -64,20 +56,19 @@ weight_none set i k q s = rw (sym q ∙ s)
 
 -- ---- the answer by sets
 
-pub by_meet : (we wf re rf : ℕ → Bool) (n : ℕ) (met shared : ℕ → Bool) (m r : ℕ) → m ≡ least_told n met → (m ≡ 0 → ⊥) → r ≡ packed_pair we wf re rf 32 (m - 1)
+pub by_meet : (we wf re rf : ℕ → Bool) (n : ℕ) (met shared : ℕ → Bool) (i r : ℕ) → i + 1 ≡ least_told n met → r ≡ packed_pair we wf re rf 32 i
     → r ≡ pair_by we wf re rf n met shared
 unfolding pair_by
-by_meet we wf re rf n met shared m r q h e = rw (← q, ne_eqb m 0 h) e
+by_meet we wf re rf n met shared i r q e = let z : i + 1 - 1 ≡ i = omega arith in rw (← q, ne_eqb (i + 1) 0 (λ w. omega arith), z) e
 
-pub by_share : (we wf re rf : ℕ → Bool) (n : ℕ) (met shared : ℕ → Bool) (m s r : ℕ) → m ≡ least_told n met → m ≡ 0 → s ≡ least_told n shared → (s ≡ 0 → ⊥)
-    → r ≡ packed_pair we wf re rf 16 (s - 1) → r ≡ pair_by we wf re rf n met shared
+pub by_share : (we wf re rf : ℕ → Bool) (n : ℕ) (met shared : ℕ → Bool) (i r : ℕ) → 0 ≡ least_told n met → i + 1 ≡ least_told n shared
+    → r ≡ packed_pair we wf re rf 16 i → r ≡ pair_by we wf re rf n met shared
 unfolding pair_by
-by_share we wf re rf n met shared m s r q z p h e = rw (← q, eq-eqb m 0 z, ← p, ne_eqb s 0 h) e
+by_share we wf re rf n met shared i r q p e = let z : i + 1 - 1 ≡ i = omega arith in rw (← q, ← p, ne_eqb (i + 1) 0 (λ w. omega arith), z) e
 
-pub by_none : (we wf re rf : ℕ → Bool) (n : ℕ) (met shared : ℕ → Bool) (m s : ℕ) → m ≡ least_told n met → m ≡ 0 → s ≡ least_told n shared → s ≡ 0
-    → 0 ≡ pair_by we wf re rf n met shared
+pub by_none : (we wf re rf : ℕ → Bool) (n : ℕ) (met shared : ℕ → Bool) → 0 ≡ least_told n met → 0 ≡ least_told n shared → 0 ≡ pair_by we wf re rf n met shared
 unfolding pair_by
-by_none we wf re rf n met shared m s q z p h = rw (← q, eq-eqb m 0 z, ← p, eq-eqb s 0 h)
+by_none we wf re rf n met shared q p = rw (← q, ← p) refl
 
 -- ---- the same tests, the same answer
 

@@ -4,19 +4,20 @@
 
 #![tactic(auto)]
 
-ghost use Rattle.std.specs.Prelude.{◌≡◌, ◌&&◌, ◌||◌, ℕ, ◌+◌, ◌≤◌, ◌<◌, length, get_or};
+ghost use Rattle.std.specs.Prelude.{◌≡◌, ◌&&◌, ◌||◌, ℕ, ◌+◌, ◌≤◌, ◌<◌, get_or};
 ghost use Rattle.lib_base.specs.Basics.{pick};
 ghost use Rattle.lib_bits.specs.Bits.{bit, Gathers};
 ghost use Rattle.spec_language.specs.Syntax.{Program};
-ghost use Rattle.draft_form.specs.Draft.{draft_length};
 ghost use Rattle.check_faults.specs.Checks.{AllInside};
 ghost use Rattle.ask_agree_for.specs.Encounter.{DraftFor};
-ghost use Rattle.ask_pair.specs.Pair.{everyone, weight, least_told, flags_at, packed_pair, pair_by, pair_by_sets, pair_of, pair_in, pair_on};
+ghost use Rattle.ask_pair.specs.Pair.{everyone, weight, flags_at, packed_pair, pair_by, pair_by_sets, pair_of, pair_in, pair_on};
 ghost use Rattle.ask_pair.specs.Flags.{all_flags};
 ghost use Rattle.spec_language.specs.Limits.{behaviour_limit, event_limit};
 
 use back_compile::Judgement;
-use draft_form::layout;
+use check_graph::ROW;
+use check_reads::Sets;
+use draft_form::{Draft, layout};
 use spec_language::{answers, limits};
 
 // The answer: this number, the behaviour, and the flags times 256.
@@ -33,16 +34,15 @@ const SECOND_READS: u64 = 8;
 const BOTH_ADD: u64 = 16;
 
 const MEET: u64 = 32;
+
 // The first n behaviours.
 fn all_of(n: usize) -> u64
     requires { n ≤ behaviour_limit }
     ensures { Gathers n result everyone }
 {
     let mut set = 0;
-    let mut i = 0;
-    while i < n {
+    for i in 0..n {
         set = lib_bits::insert(set, i);
-        i += 1;
     }
     set
 }
@@ -52,22 +52,6 @@ fn cross(a: u64, b: u64, c: u64, d: u64) -> u64
     ensures { (i : ℕ) → bit result i ≡ (bit a i && bit b i) || (bit c i && bit d i) }
 {
     lib_bits::union_of(lib_bits::common(a, b), lib_bits::common(c, d))
-}
-
-// One more than the least of the set, of n; 0 for none.
-fn least_of(set: u64, n: usize) -> usize
-    requires { n ≤ behaviour_limit }
-    ensures value { result ≡ least_told n (bit set) }
-    ensures upper_bound { result ≤ behaviour_limit }
-{
-    let mut i = 0;
-    while i < n {
-        if lib_bits::contains(set, i) {
-            return i + 1;
-        }
-        i += 1;
-    }
-    0
 }
 
 // The flag's weight where i is in the set.
@@ -108,21 +92,18 @@ fn pair_by(we: u64, wf: u64, re: u64, rf: u64, met: u64, shared: u64, n: usize) 
     requires { n ≤ behaviour_limit }
     ensures { result ≡ pair_by (bit we) (bit wf) (bit re) (bit rf) n (bit met) (bit shared) }
 {
-    let m = least_of(met, n);
-    if m != 0 {
-        return pack(we, wf, re, rf, MEET, m - 1);
+    if let Some(i) = check_graph::first_of(met, n) {
+        return pack(we, wf, re, rf, MEET, i);
     }
-    let s = least_of(shared, n);
-    if s != 0 {
-        return pack(we, wf, re, rf, BOTH_ADD, s - 1);
+    if let Some(i) = check_graph::first_of(shared, n) {
+        return pack(we, wf, re, rf, BOTH_ADD, i);
     }
     0
 }
 
 // The same of events e and f, by what each event writes, names and is strict about.
-fn pair_of(writes: &[u64], named: &[u64], strict: &[u64], n: usize, e: usize, f: usize) -> u64
-    requires { (length writes.now ≡ event_limit) × (length named.now ≡ event_limit) × (length strict.now ≡ event_limit) × (n ≤ behaviour_limit)
-        × (e < event_limit) × (f < event_limit) }
+fn pair_of(writes: &Sets, named: &Sets, strict: &Sets, n: usize, e: usize, f: usize) -> u64
+    requires { (n ≤ behaviour_limit) × (e < event_limit) × (f < event_limit) }
     ensures { result ≡ pair_by_sets writes.now named.now strict.now n e f }
 {
     let we = writes[e];
@@ -135,11 +116,11 @@ fn pair_of(writes: &[u64], named: &[u64], strict: &[u64], n: usize, e: usize, f:
 }
 
 // The same on a draft of ev events and n behaviours.
-fn pair_in(d: &[u64], ev: usize, n: usize, e: usize, f: usize) -> u64
-    requires { (length d.now ≡ draft_length) × (ev ≤ event_limit) × (n ≤ behaviour_limit) × (e < ev) × (f < ev) × AllInside d.now ev n }
+fn pair_in(d: &Draft, ev: usize, n: usize, e: usize, f: usize) -> u64
+    requires { (ev ≤ event_limit) × (n ≤ behaviour_limit) × (e < ev) × (f < ev) × AllInside d.now ev n }
     ensures { (p : Program) → DraftFor p d.now ev n → result ≡ pair_of p e f }
 {
-    let mut rows = [0u64; limits::BEHAVIOURS];
+    let mut rows = [0u64; ROW];
     let mut writes = [0u64; limits::EVENTS];
     let mut named = [0u64; limits::EVENTS];
     let mut strict = [0u64; limits::EVENTS];
@@ -152,8 +133,8 @@ fn pair_in(d: &[u64], ev: usize, n: usize, e: usize, f: usize) -> u64
 }
 
 // The answer for a sheet that compile accepts.
-fn pair_for(d: &[u64], ev: usize, n: usize, first: u32, second: u32) -> u64
-    requires { (length d.now ≡ draft_length) × (ev ≤ event_limit) × (n ≤ behaviour_limit) × AllInside d.now ev n }
+fn pair_for(d: &Draft, ev: usize, n: usize, first: u32, second: u32) -> u64
+    requires { (ev ≤ event_limit) × (n ≤ behaviour_limit) × AllInside d.now ev n }
     ensures { (p : Program) → DraftFor p d.now ev n → result ≡ pair_in p first second }
 {
     if (first as usize) < ev {

@@ -1,8 +1,7 @@
 -- What each answer of the judging rests on: the reader's fault is the grammar's, and the draft, filled in, is judged as
 -- the sheet's program is. Where nothing lacks, the values filled in are those lent.
-use Rattle.lib_base.proofs.Prelude.{ℕ, ◌≤◌, ◌<◌, ◌≡◌, refl, ◌∙◌, sym, ap, subst, true, false, Bool, ◌≢◌, ◌⊎◌, ⊎_elim}
-use Rattle.lib_base.proofs.Prelude.{List, length, replicate, length-replicate, ltb, arith}
-use denote.Enum.Declared.{tag_of}
+use Rattle.lib_base.proofs.Prelude.{ℕ, ◌≤◌, ◌<◌, ◌≡◌, refl, ◌∙◌, sym, ap, subst, true, false, Bool, ◌≢◌}
+use Rattle.lib_base.proofs.Prelude.{List, length, get_or, replicate, length-replicate, ltb, arith}
 use Rattle.lib_base.specs.Basics.{All}
 use Rattle.lib_base.proofs.Tools.{split}
 use Rattle.lib_word.specs.Word.{get}
@@ -11,10 +10,13 @@ use Rattle.spec_language.specs.Reading.{bad, read_sheet}
 use Rattle.spec_language.proofs.SheetLaws.{fill_unused}
 use Rattle.spec_grammar.proofs.Programs.{fault_numbers}
 use Rattle.format_image.specs.Table.{put_words}
-use Rattle.draft_form.specs.Draft.{draft_length, DraftOf}
-use Rattle.front_sheet.specs.declared.Draft.{Draft}
-use Rattle.front_sheet.specs.declared.Draft.TheVariants.{Ready, Broken}
-use Rattle.front_sheet.specs.Whole.{finished, read_on}
+use Rattle.draft_form.specs.Draft.{DraftOf}
+use Rattle.std.specs.Prelude.{Result, Err}
+use Rattle.std.proofs.Common.{Fits, w8}
+use Rattle.front_sheet.specs.declared.Counts.{Counts}
+use Rattle.spec_language.specs.Numbers.{refusal_number}
+use Rattle.spec_language.specs.declared.refusals.Refusal.{Refusal}
+use Rattle.front_sheet.specs.Whole.{ready, finished, read_on}
 use Rattle.front_correct.proofs.Drafts.{Outcome, empty, drafted_as}
 use Rattle.draft_params.specs.Filling.{parameter_value, fill_to, lacks_param}
 use Rattle.draft_params.proofs.Fills.{draft_filled, filled_program, draft_lacks}
@@ -25,14 +27,13 @@ use Rattle.back_table.proofs.TableIs.{draft_planned}
 use Rattle.back_compile.specs.Verdict.{judge, lacks_parameters, compile_on}
 use Rattle.back_compile.specs.Number.{number_on}
 use Rattle.back_compile.specs.Compiled.{Compiled, compiled, program_of}
-use Rattle.back_compile.specs.Judged.{Drafts, Passes, CircleDraft, Falls, Finding, JudgedAs, answer_of, draft_refusal}
+use Rattle.back_compile.specs.Judged.{Drafts, Passes, CircleDraft, Falls, Finding, JudgedAs, answer_of}
 use Rattle.back_compile.specs.declared.Judgement.{Judgement}
 use Rattle.back_compile.specs.declared.Judgement.TheVariants.{Accepted, Circular, Refused}
-use Rattle.back_compile.specs.contracts.Judgement.{the_type}
 use Rattle.back_compile.proofs.JudgeLaws.{compile_opens, compile_long}
 use Rattle.back_compile.proofs.DraftJudged.{draft_unknown, draft_lacking, draft_circular, draft_overlong, draft_passes}
 use Rattle.back_compile.proofs.FillJudged.{filled_is}
-use Rattle.back_compile.proofs.ReadIs.{read_fault, read_judged}
+use Rattle.back_compile.proofs.ReadIs.{all_bytes, read_fault, read_judged}
 
 pub long_falls : (s ps : List ℕ) → 8192 < length s → Falls s ps 3
 long_falls s ps h = record { some = omega arith; other = omega arith; refused = λ t b. compile_long s ps t b h }
@@ -48,31 +49,40 @@ filled_lent x ps h =
     lent : ltb (length ps) 32 ≡ false → (k : ℕ) → parameter_value ps k ≡ get ps k
     lent c k = rw c
 
-module _ (s ps : List ℕ) (bytes : All (λ b. b < 256) s) (hi : length s ≤ 8192) where
-  pub read_falls : (a : Draft) (k : ℕ) (d : List ℕ) → a ≡ Broken k → finished a d ≡ read_on s empty → {x : ℕ} → x ≡ draft_refusal a → Falls s ps x
-  read_falls a k d b q {x} e =
-      let r : read_sheet s ≡ bad k = drafted_as s bytes hi (Broken k) d (sym q ∙ ap (λ (y : Draft). finished y d) b) in
-      let f = fault_numbers s k r in
-      let z : x ≡ k = e ∙ ap draft_refusal b in
+-- the reader's answer, where it is known
+pub read_as : (s : List ℕ) {a b : Result Counts Refusal} {d e : List ℕ} → a ≡ b → e ≡ empty → finished a d ≡ read_on s e → finished b d ≡ read_on s empty
+read_as s {d = d} q z r = ap (λ (x : Result Counts Refusal). finished x d) (sym q) ∙ r ∙ ap (read_on s) z
+
+abbrev bytes_of : (s : List ℕ) → ((i : ℕ) → Fits w8 (get_or s i 0)) → All (λ b. b < 256) s
+bytes_of s h = all_bytes s (λ i _. omega (arith, h i))
+
+module _ (s ps : List ℕ) (fit : (i : ℕ) → Fits w8 (get_or s i 0)) (hi : length s ≤ 8192) where
+  abbrev bytes : All (λ b. b < 256) s
+  bytes = bytes_of s fit
+
+  pub read_falls : {k : Refusal} {d : List ℕ} {x : ℕ} → finished (Err k) d ≡ read_on s empty → x ≡ refusal_number k → Falls s ps x
+  read_falls {k} {d} {x} q e =
+      let r : read_sheet s ≡ bad (refusal_number k) = drafted_as s bytes hi (Err k) d (sym q) in
+      let f = fault_numbers s (refusal_number k) r in
       record {
-        some = omega (arith, f.0);
-        other = omega (arith, f.1);
-        refused = λ t h. compile_opens s ps t h hi ∙ sym (ap (λ (y : ℕ). compiled y t) e ∙ read_fault s bytes hi a k d ps t b q);
+        some = omega (arith, f.0, e);
+        other = omega (arith, f.1, e);
+        refused = λ t h. compile_opens s ps t h hi ∙ sym (ap (λ (y : ℕ). compiled y t) e ∙ read_fault s bytes hi k d ps t q);
       }
 
-  module _ (lent : All (λ b. b < 256) ps) {ev bs n : ℕ} {d : List ℕ} (q : finished (Ready ev bs n) d ≡ read_on s empty) where
+  module _ (lends : (i : ℕ) → Fits w8 (get_or ps i 0)) {ev bs n : ℕ} {d : List ℕ} (q : finished (ready ev bs n) d ≡ read_on s empty) where
+    abbrev lent : All (λ b. b < 256) ps
+    lent = bytes_of ps lends
+
     -- what was read, and the draft filled in
-    abbrev of : Outcome s (Ready ev bs n) d
-    of = drafted_as s bytes hi (Ready ev bs n) d (sym q)
+    abbrev of : Outcome s (ready ev bs n) d
+    of = drafted_as s bytes hi (ready ev bs n) d (sym q)
 
     abbrev full : List ℕ
     full = fill_to ps d n
 
     abbrev pub filled : DraftOf ev bs n full
     filled = draft_filled ps lent of.0
-
-    pub read_long : length d ≡ draft_length
-    read_long = of.0.drafted.long
 
     pub read_few : n ≤ 2048
     read_few = of.0.drafted.few
@@ -123,10 +133,10 @@ module _ (s ps d : List ℕ) (a : Judgement) (h : JudgedAs s ps d a) where
   pub judged_turns : (ev bs : ℕ) → a ≡ Circular ev bs → CircleDraft s ps ev bs d
   judged_turns ev bs q = subst (λ (x : Judgement). Finding s ps d x) q h.finding
 
--- not accepted, by its tag: refused by the number that the judgement tells
-pub not_passed : (s ps d t : List ℕ) (a : Judgement) → JudgedAs s ps d a → (tag_of the_type a ≡ 1) ⊎ (tag_of the_type a ≡ 2) → 34816 ≤ length t
+-- not accepted: refused by the number that the judgement tells
+pub not_passed : (s ps d t : List ℕ) (a : Judgement) → JudgedAs s ps d a → ((ev bs : ℕ) → a ≡ Accepted ev bs → ⊥) → 34816 ≤ length t
     → {x : ℕ} → x ≡ answer_of a → compiled x t ≡ compile_on s ps t
-not_passed s ps d t (Accepted ev bs) h n l q = ⊎_elim (λ e. absurd (omega arith)) (λ e. absurd (omega arith)) n
+not_passed s ps d t (Accepted ev bs) h n l q = absurd (n ev bs refl)
 not_passed s ps d t (Circular ev bs) h n l q = ap (λ (y : ℕ). compiled y t) q ∙ sym (h.finding.refused t l)
 not_passed s ps d t (Refused k) h n l q = ap (λ (y : ℕ). compiled y t) q ∙ sym (h.finding.refused t l)
 
@@ -152,8 +162,8 @@ judged_number s ps d (Accepted ev bs) h q = q ∙ sym (passes_number s ps h.find
 judged_number s ps d (Circular ev bs) h q = q ∙ sym (turns_number s ps h.finding)
 judged_number s ps d (Refused k) h q = q ∙ told s ps (h.finding.refused (replicate 34816 0) room)
 
--- and not 0 where it is not accepted, by its tag
-pub refused_some : (s ps d : List ℕ) (a : Judgement) → JudgedAs s ps d a → (tag_of the_type a ≡ 1) ⊎ (tag_of the_type a ≡ 2) → {r : ℕ} → r ≡ answer_of a → r ≢ 0
-refused_some s ps d (Accepted ev bs) h n q = ⊎_elim (λ e. absurd (omega arith)) (λ e. absurd (omega arith)) n
-refused_some s ps d (Circular ev bs) h n q = omega arith
-refused_some s ps d (Refused k) h n q = λ z. h.finding.some (sym q ∙ z)
+-- and not 0 where it is not accepted
+pub turned_some : (s ps d : List ℕ) (a : Judgement) → JudgedAs s ps d a → ((ev bs : ℕ) → a ≡ Accepted ev bs → ⊥) → {r : ℕ} → r ≡ answer_of a → r ≢ 0
+turned_some s ps d (Accepted ev bs) h n q = absurd (n ev bs refl)
+turned_some s ps d (Circular ev bs) h n q = omega arith
+turned_some s ps d (Refused k) h n q = λ z. h.finding.some (sym q ∙ z)

@@ -5,8 +5,6 @@ use Rattle.spec_language.specs.Sheet.{Sheet}
 use Rattle.spec_language.specs.Reading.{got, read_sheet}
 use Rattle.format_image.specs.Table.{put_words}
 use Rattle.draft_form.specs.Draft.{DraftOf, SheetDraft}
-use Rattle.front_sheet.specs.declared.Draft.{Draft}
-use Rattle.front_sheet.specs.declared.Draft.TheVariants.{Ready, Broken}
 use Rattle.check_faults.specs.Faults.{known}
 use Rattle.check_faults.specs.Checks.{cyclic_on}
 use Rattle.back_table.specs.TableWords.{table_words, Planned}
@@ -67,8 +65,3 @@ pub record Judged (ev bs n : ℕ) (d : List ℕ) (lacking : Bool) (t : List ℕ)
 -- and those for whatever sheet d is the draft of, its parameters not filled in, with the bytes ps lent for them
 pub record SheetJudged (ev bs n : ℕ) (d ps t : List ℕ) (r : ℕ) (t' : List ℕ) : Type 0 where
   pub each_sheet : (o : SheetDraft ev bs n d) → compiled r t' ≡ judge_read (got o.sheet []) ps t
-
--- the number of the reader's refusal
-abbrev pub draft_refusal : Draft → ℕ
-draft_refusal (Ready e b n) = 0
-draft_refusal (Broken k) = k

@@ -6,16 +6,15 @@
 
 #![tactic(auto)]
 
-ghost use Rattle.std.specs.Prelude.{◌≡◌, ◌≤◌, length, replicate};
+ghost use Rattle.std.specs.Prelude.{◌≡◌, replicate};
 ghost use Rattle.draft_form.specs.Draft.{draft_length};
 ghost use Rattle.back_compile.specs.Verdict.{compile_on};
 ghost use Rattle.back_compile.specs.Number.{number_on};
 ghost use Rattle.back_compile.specs.Compiled.{compiled};
-ghost use Rattle.back_compile.specs.Judged.{JudgedAs, answer_of, draft_refusal};
+ghost use Rattle.back_compile.specs.Judged.{JudgedAs, answer_of};
 
-use draft_form::layout;
+use draft_form::{Draft, layout};
 use format_layout::table;
-use front_sheet::Draft;
 use spec_language::{limits, refusals};
 
 // What a sheet is found to be: accepted, or with a circle, of so many events and behaviours, its draft being filled in;
@@ -38,20 +37,10 @@ pub fn judgement_number(judgement: Judgement) -> u32
     }
 }
 
-// The number of the reader's refusal; 0 of a draft that is ready.
-fn reader_refusal(reading: Draft) -> u32
-    ensures { result ≡ draft_refusal reading }
-{
-    match reading {
-        Draft::Ready(_, _, _) => 0,
-        Draft::Broken(number) => number as u32,
-    }
-}
-
 // A sheet judged, all but the table, in the order of the refusals: 3, the reading, 11, 20, 12, 13. A draft of zeros
 // becomes the sheet's, its parameters filled in. That is done before 11 and 20 are looked for: their values do not
 // matter there.
-pub fn judge_sheet(sheet: &[u8], params: &[u8], draft: &mut [u64]) -> Judgement
+pub fn judge_sheet(sheet: &[u8], params: &[u8], draft: &mut Draft) -> Judgement
     requires { draft.old ≡ replicate draft_length 0 }
     ensures { JudgedAs sheet.now params.now draft.new result }
 {
@@ -59,24 +48,24 @@ pub fn judge_sheet(sheet: &[u8], params: &[u8], draft: &mut [u64]) -> Judgement
         return Judgement::Refused(refusals::LONG_SHEET);
     }
     let reading = front_sheet::read_program(sheet, draft);
-    let Draft::Ready(events, behaviours, nodes) = reading else {
-        return Judgement::Refused(reader_refusal(reading));
+    let Ok(counts) = reading else {
+        return Judgement::Refused(reading.unwrap_err().number());
     };
-    let lacking = draft_params::lacks_param(draft, nodes, params);
-    draft_params::fill_draft(draft, nodes, params);
-    if !check_faults::names_known(draft, nodes, behaviours) {
+    let lacking = draft_params::lacks_param(draft, counts.nodes, params);
+    draft_params::fill_draft(draft, counts.nodes, params);
+    if !check_faults::names_known(draft, counts.nodes, counts.behaviours) {
         return Judgement::Refused(refusals::UNKNOWN_NAME);
     }
     if lacking {
         return Judgement::Refused(refusals::NO_PARAMETERS);
     }
-    if check_faults::has_cycle(draft, events, behaviours) {
-        return Judgement::Circular(events, behaviours);
+    if check_faults::has_cycle(draft, counts.events, counts.behaviours) {
+        return Judgement::Circular(counts.events, counts.behaviours);
     }
-    if back_table::count_all(draft, events, behaviours) > limits::INSTRUCTIONS {
+    if back_table::count_all(draft, counts.events, counts.behaviours) > limits::INSTRUCTIONS {
         return Judgement::Refused(refusals::OVERLONG);
     }
-    Judgement::Accepted(events, behaviours)
+    Judgement::Accepted(counts.events, counts.behaviours)
 }
 
 // compile's number, as with a full table: the sheet judged, and no table made.

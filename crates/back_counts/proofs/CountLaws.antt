@@ -1,5 +1,6 @@
 -- What a loop has summed so far. A share is small, so that the sum fits.
-use Rattle.lib_base.proofs.Prelude.{ℕ, ◌≤◌, ◌<◌, ◌+◌, suc, zero, ◌*◌, ◌≡◌, List, eqb, add-one, arith}
+use Rattle.lib_base.proofs.Prelude.{ℕ, ◌≤◌, ◌<◌, ◌+◌, suc, zero, ◌*◌, ◌≡◌, sym, List, eqb, add-one, arith}
+use native.Mathlib.Nat.{add-zero}
 use Rattle.lib_base.proofs.Tools.{by_test}
 use Rattle.draft_form.specs.Draft.{entry_of}
 use Rattle.draft_form.specs.Entry.{entry_kind, entry_start, entry_count}
@@ -44,19 +45,25 @@ total_one : (f : ℕ → ℕ) (i : ℕ) → total (i + 1) f ≡ total i f + f i
 unfolding total
 total_one f i = rw add-one
 
--- a loop over the numbers below n has added those below i to a
-pub record Sum (f : ℕ → ℕ) (n a i s : ℕ) : Type 0 where
+-- a loop has added those below i to a
+pub record Sum (f : ℕ → ℕ) (a i s : ℕ) : Type 0 where
   pub whole : s ≡ a + total i f
-  pub few : i ≤ n
   pub small : s ≤ a + i * 4100
 
-module _ {f : ℕ → ℕ} {n a : ℕ} where
-  pub sum_start : Sum f n a 0 a
+module _ {f : ℕ → ℕ} {a : ℕ} where
+  pub sum_start : Sum f a 0 a
   unfolding total
-  sum_start = record { whole = omega arith; few = omega arith; small = omega arith }
+  sum_start = record { whole = omega arith; small = omega arith }
 
-  pub sum_turn : {i s r : ℕ} → Sum f n a i s → i < n → r ≡ f i → r ≤ 4100 → Sum f n a (i + 1) (s + r)
-  sum_turn {i} u b e h = record { whole = omega (arith, u.whole, total_one f i); few = omega arith; small = omega (arith, u.small) }
+  pub sum_turn : {i s r : ℕ} → Sum f a i s → r ≡ f i → r ≤ 4100 → Sum f a (i + 1) (s + r)
+  sum_turn {i} u e h = record { whole = omega (arith, u.whole, total_one f i); small = omega (arith, u.small) }
 
-  pub sum_end : {i s : ℕ} → Sum f n a i s → n ≤ i → s ≡ a + total n f
-  sum_end {i} u b = let z : i ≡ n = omega (arith, u.few) in rw z at u.whole
+  pub sum_end : {i n s : ℕ} → Sum f a i s → i ≡ n → s ≡ a + total n f
+  sum_end u e = rw (← e) u.whole
+
+  -- of a count: the next is counted, or not
+  pub sum_one : {i s : ℕ} → Sum f a i s → f i ≡ 1 → Sum f a (i + 1) (s + 1)
+  sum_one u e = sum_turn u (sym e) (omega arith)
+
+  pub sum_none : {i s : ℕ} → Sum f a i s → f i ≡ 0 → Sum f a (i + 1) s
+  sum_none {s = s} u e = rw (add-zero s) at (sum_turn u (sym e) (omega arith))

@@ -1,9 +1,16 @@
 -- The words of a branch, from the fact that the code has there.
-use Rattle.lib_base.proofs.Prelude.{ℕ, ◌+◌, ◌%◌, ◌≡◌, refl, ◌∙◌, sym, List, [], ◌∷◌, ◌++◌}
+use Rattle.lib_base.proofs.Prelude.{ℕ, ◌+◌, ◌-◌, ◌%◌, ◌≤◌, ◌≡◌, refl, ◌∙◌, sym, List, [], ◌∷◌, ◌++◌, length, get_or, take, drop, flat_map}
+use Rattle.lib_base.proofs.Prelude.{length-drop, get_or-drop, arith}
 use Rattle.lib_base.proofs.Pick.{if_eq, if_not_eq}
-use Rattle.draft_form.specs.Draft.{entry_of}
+use Rattle.draft_form.specs.Draft.{entry_of, moved}
 use Rattle.draft_form.specs.Entry.{entry_kind, entry_start, entry_count, node_tag, node_word}
-use Rattle.back_emit.specs.Words.{name_words, node_words, expr_words, turn_words, turn_words_of_kind, move_words, member_words}
+use Rattle.back_counts.specs.Counts.{EntriesInside}
+use Rattle.back_counts.proofs.CountLaws.{sound_inside}
+use Rattle.back_emit.specs.Words.{each, name_words, node_words, expr_words, turn_words, turn_words_of_kind, move_words, member_words}
+use Rattle.back_emit.proofs.WritingLaws.{in_turn_each}
+
+pub entry_within : {d : List ℕ} {e v : ℕ} (i : ℕ) → EntriesInside d e (i + 1) → v ≡ entry_of d e i → entry_start v + entry_count v ≤ length d
+entry_within i s is = omega (arith, s.long, sound_inside s (omega arith) is)
 
 module _ (d : List ℕ) (e j v : ℕ) (is : v ≡ entry_of d e j) where
   pub name_load : v ≡ 0 → (1536 + j) ∷ 0 ∷ [] ≡ name_words d e j
@@ -38,9 +45,18 @@ module _ (d : List ℕ) (e j v : ℕ) (is : v ≡ entry_of d e j) where
   unfolding move_words
   move_none h = if_not_eq _ _ (entry_kind (entry_of d e j)) 3 (rw (← is) h) refl
 
-  pub turn_is : (op : ℕ) → expr_words d e j (entry_start v) (entry_count v) ++ ((op + j) ∷ 0 ∷ []) ≡ turn_words d e op j
-  unfolding turn_words
-  turn_is op = rw is
+  -- the expression's words, by the part of the draft with its nodes
+  pub turn_is : (op : ℕ) → entry_start v + entry_count v ≤ length d
+      → flat_map (λ x. node_words d e (moved d j x)) (take (entry_start v + entry_count v - entry_start v) (drop (entry_start v) d)) ++ ((op + j) ∷ 0 ∷ []) ≡ turn_words d e op j
+  unfolding turn_words expr_words
+  turn_is op h =
+      let l : entry_count v ≤ length (drop (entry_start v) d) = omega (arith, length-drop (entry_start v) d) in
+      let s : flat_map (λ x. node_words d e (moved d j x)) (take (entry_count v) (drop (entry_start v) d)) ≡ each (entry_count v) (λ i. node_words d e (moved d j (get_or (drop (entry_start v) d) i 0))) =
+      in_turn_each (λ x. node_words d e (moved d j x)) (drop (entry_start v) d) (entry_count v) l in
+      let g : flat_map (λ x. node_words d e (moved d j x)) (take (entry_count v) (drop (entry_start v) d)) ≡ each (entry_count v) (λ i. node_words d e (moved d j (get_or d (entry_start v + i) 0))) =
+      simp get_or-drop at s in
+      let z : entry_start v + entry_count v - entry_start v ≡ entry_count v = omega arith in
+      rw (z, g, is)
 
 module _ (d : List ℕ) (e x : ℕ) where
   pub node_push : node_tag x ≡ 16 → 1280 ∷ node_word x ∷ [] ≡ node_words d e x

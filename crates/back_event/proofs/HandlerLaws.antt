@@ -1,34 +1,36 @@
 -- The steps of an event: the room for each, whatever is written before it, and that what they write stands in a row.
 use Rattle.lib_base.proofs.Prelude.{ℕ, ◌+◌, suc, zero, ◌*◌, ◌≡◌, refl, true, false, List, [], ◌∷◌, ◌++◌, append_assoc}
 use Rattle.lib_base.proofs.Prelude.{length, take, length-append, eqb, arith}
+use Rattle.std.specs.Prelude.{Option, Some}
 use Rattle.lib_base.proofs.Tools.{split}
 use Rattle.draft_form.specs.Draft.{entry_of}
 use Rattle.back_counts.specs.Counts.{total, is_member, count_members}
-use Rattle.back_schedule.specs.Ordering.{order_under, is_ordered, OrderHolds}
+use Rattle.back_schedule.specs.Ordering.{order_under, is_ordered, OrderHolds, Checked}
+use Rattle.back_schedule.proofs.OrderingLaws.{found_all}
 use Rattle.back_emit.specs.Words.{each, member_words}
-use Rattle.back_emit.specs.Writing.{Room, Wrote}
-use Rattle.back_emit.proofs.WritingLaws.{wrote_long, wrote_then, wrote_as, room_first, room_then}
+use Rattle.back_emit.specs.Writing.{Table, Room, Wrote}
+use Rattle.back_emit.proofs.WritingLaws.{wrote_long, wrote_then, wrote_as, room_as, room_first, room_then}
 use Rattle.back_phases.specs.Phases.{first_words, second_words}
 use Rattle.back_event.specs.Handlers.{masked_words, event_words, code_of}
 use Rattle.back_event.proofs.PutOrder.{wrote_front}
 
-module _ (d : List ℕ) (e n op : ℕ) {t : List ℕ} {k : ℕ} (h : Room t k (masked_words d e op n)) where
+module _ (d : List ℕ) (e n op : ℕ) {t : Table} {k : ℕ} (h : Room t k (masked_words d e op n)) where
   pub masked_begin : Room t k (256 ∷ 0 ∷ [])
   unfolding masked_words
   masked_begin = room_first (256 ∷ 0 ∷ []) (each n (member_words d e op) ++ (512 ∷ 0 ∷ [])) h
 
-  pub masked_rest : {t₁ : List ℕ} {r₁ : ℕ} → Wrote t k (256 ∷ 0 ∷ []) t₁ r₁ → Room t₁ r₁ (each n (member_words d e op) ++ (512 ∷ 0 ∷ []))
+  pub masked_rest : {t₁ : Table} {r₁ : ℕ} → Wrote t k (256 ∷ 0 ∷ []) t₁ r₁ → Room t₁ r₁ (each n (member_words d e op) ++ (512 ∷ 0 ∷ []))
   unfolding masked_words
   masked_rest w = room_then w h
 
-  pub masked_members : {t₁ : List ℕ} {r₁ : ℕ} → Wrote t k (256 ∷ 0 ∷ []) t₁ r₁ → Room t₁ r₁ (each n (member_words d e op))
+  pub masked_members : {t₁ : Table} {r₁ : ℕ} → Wrote t k (256 ∷ 0 ∷ []) t₁ r₁ → Room t₁ r₁ (each n (member_words d e op))
   masked_members w = room_first (each n (member_words d e op)) (512 ∷ 0 ∷ []) (masked_rest w)
 
-  pub masked_end : {t₁ t₂ : List ℕ} {r₁ r₂ : ℕ} → Wrote t k (256 ∷ 0 ∷ []) t₁ r₁ → Wrote t₁ r₁ (each n (member_words d e op)) t₂ r₂
+  pub masked_end : {t₁ t₂ : Table} {r₁ r₂ : ℕ} → Wrote t k (256 ∷ 0 ∷ []) t₁ r₁ → Wrote t₁ r₁ (each n (member_words d e op)) t₂ r₂
       → Room t₂ r₂ (512 ∷ 0 ∷ [])
   masked_end w v = room_then v (masked_rest w)
 
-pub masked_all : (d : List ℕ) (e n op : ℕ) {t t₁ t₂ t₃ : List ℕ} {k r₁ r₂ r₃ : ℕ} → Wrote t k (256 ∷ 0 ∷ []) t₁ r₁
+pub masked_all : (d : List ℕ) (e n op : ℕ) {t t₁ t₂ t₃ : Table} {k r₁ r₂ r₃ : ℕ} → Wrote t k (256 ∷ 0 ∷ []) t₁ r₁
     → Wrote t₁ r₁ (each n (member_words d e op)) t₂ r₂ → Wrote t₂ r₂ (512 ∷ 0 ∷ []) t₃ r₃ → Wrote t k (masked_words d e op n) t₃ r₃
 unfolding masked_words
 masked_all d e n op u v w = wrote_then u (wrote_then v w)
@@ -53,7 +55,7 @@ behind_copy d e n k m q = rw (masked_length d e 768 n, q)
 
 -- ---- Figure 3's steps
 
-module _ (d is : List ℕ) (e n : ℕ) {t : List ℕ} {k a : ℕ} (h : Room t k (event_words d e n is)) (q : a ≡ k + length (masked_words d e 768 n)) where
+module _ (d is : List ℕ) (e n : ℕ) {t : Table} {k a : ℕ} (h : Room t k (event_words d e n is)) (q : a ≡ k + length (masked_words d e 768 n)) where
   lengths : length (event_words d e n is)
       ≡ length (masked_words d e 768 n) + (length (first_words d e n is) + (length (second_words d e n is) + length (masked_words d e 1024 n)))
   unfolding event_words
@@ -62,15 +64,15 @@ module _ (d is : List ℕ) (e n : ℕ) {t : List ℕ} {k a : ℕ} (h : Room t k 
   pub room_first_phase : Room t a (first_words d e n is)
   room_first_phase = record { within = omega (arith, h.within, lengths); long = h.long }
 
-  module _ {t₁ : List ℕ} {b : ℕ} (w₁ : Wrote t a (first_words d e n is) t₁ b) where
+  module _ {t₁ : Table} {b : ℕ} (w₁ : Wrote t a (first_words d e n is) t₁ b) where
     pub room_second_phase : Room t₁ b (second_words d e n is)
     room_second_phase = record { within = omega (arith, h.within, lengths, w₁.next); long = omega (arith, h.long, wrote_long w₁) }
 
-    module _ {t₂ : List ℕ} {c : ℕ} (w₂ : Wrote t₁ b (second_words d e n is) t₂ c) where
+    module _ {t₂ : Table} {c : ℕ} (w₂ : Wrote t₁ b (second_words d e n is) t₂ c) where
       pub room_copy : Room t₂ k (masked_words d e 768 n)
       room_copy = record { within = omega (arith, h.within, lengths); long = omega (arith, h.long, wrote_long w₁, wrote_long w₂) }
 
-      module _ {t₃ : List ℕ} {r : ℕ} (w₃ : Wrote t₂ k (masked_words d e 768 n) t₃ r) where
+      module _ {t₃ : Table} {r : ℕ} (w₃ : Wrote t₂ k (masked_words d e 768 n) t₃ r) where
         pub room_restore : Room t₃ c (masked_words d e 1024 n)
         room_restore = record {
           within = omega (arith, h.within, lengths, w₁.next, w₂.next);
@@ -78,7 +80,7 @@ module _ (d is : List ℕ) (e n : ℕ) {t : List ℕ} {k a : ℕ} (h : Room t k 
         }
 
         -- the copy's, phase one's, phase two's and the copy-back's in a row
-        pub steps_wrote : {t₄ : List ℕ} {s : ℕ} → Wrote t₃ c (masked_words d e 1024 n) t₄ s → Wrote t k (event_words d e n is) t₄ s
+        pub steps_wrote : {t₄ : Table} {s : ℕ} → Wrote t₃ c (masked_words d e 1024 n) t₄ s → Wrote t k (event_words d e n is) t₄ s
         unfolding event_words
         steps_wrote w₄ =
             wrote_as (simp append_assoc) (wrote_then (wrote_front q (wrote_then w₁ w₂) w₃) w₄)
@@ -93,3 +95,11 @@ pub code_ordered : (d : List ℕ) (e n : ℕ) {o : List ℕ} {count : ℕ} → i
     → event_words d e n (take count o) ≡ code_of d n e
 unfolding code_of
 code_ordered d e n h w = rw (h, w.taken)
+
+-- what was found, and the room for the code in that order
+pub in_order : (d : List ℕ) (e n : ℕ) {a : Option ℕ} {o : List ℕ} {t : Table} {count k : ℕ} → Checked d e n a o → a ≡ Some count → Room t k (code_of d n e)
+    → OrderHolds o count n (order_under d e n) × ((event_words d e n (take count o) ≡ code_of d n e) × Room t k (event_words d e n (take count o)))
+in_order d e n {a} {o} {count = count} h s r =
+    let f = found_all d e n a o h count s in
+    let w = code_ordered d e n f.0 f.1 in
+    (f.1, (w, room_as w r))

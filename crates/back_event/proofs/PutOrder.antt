@@ -5,7 +5,7 @@ use lib.Seq.{set_comm}
 use Rattle.lib_word.specs.Word.{put}
 use Rattle.format_image.specs.Table.{put_words}
 use Rattle.format_image.proofs.PutWords.{put_words_append}
-use Rattle.back_emit.specs.Writing.{Wrote}
+use Rattle.back_emit.specs.Writing.{Table, Wrote}
 
 -- a byte outside word a
 set_put : (l : List ℕ) (a y i v : ℕ) → a * 4 ≢ i → a * 4 + 1 ≢ i → a * 4 + 2 ≢ i → a * 4 + 3 ≢ i → set (put l a y) i v ≡ put (set l i v) a y
@@ -54,10 +54,11 @@ put_words_put_words l a ys k (x ∷ xs) h =
     ap (λ (m : List ℕ). put_words m (k + 1) xs) (put_put_words l a ys k x (omega arith)) ∙ put_words_put_words (put l k x) a ys (k + 1) xs (omega arith)
 
 -- words that are written in front of others, up to them
-pub wrote_front : {t t₁ t₂ xs ys : List ℕ} {k a r s : ℕ} → a ≡ k + length xs → Wrote t a ys t₁ r → Wrote t₁ k xs t₂ s → Wrote t k (xs ++ ys) t₂ r
+pub wrote_front : {t t₁ t₂ : Table} {xs ys : List ℕ} {k a r s : ℕ} → a ≡ k + length xs → Wrote t a ys t₁ r → Wrote t₁ k xs t₂ s → Wrote t k (xs ++ ys) t₂ r
 wrote_front {t} {t₁} {t₂} {xs} {ys} {k} {a} {r} q w v = record {
   table =
-      v.table ∙ ap (λ (m : List ℕ). put_words m k xs) w.table ∙ put_words_put_words t a ys k xs (omega arith)
-      ∙ ap (λ (b : ℕ). put_words (put_words t k xs) b ys) q ∙ sym (put_words_append t k xs ys);
+      v.table ∙ ap (λ (m : List ℕ). put_words m k xs) w.table ∙ put_words_put_words t.now a ys k xs (omega arith)
+      ∙ ap (λ (b : ℕ). put_words (put_words t.now k xs) b ys) q ∙ sym (put_words_append t.now k xs ys);
   next = rw length-append (omega (arith, w.next));
+  same = v.same ∙ w.same;
 }

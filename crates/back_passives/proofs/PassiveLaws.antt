@@ -3,16 +3,15 @@ use Rattle.lib_base.proofs.Prelude.{ℕ, ◌≤◌, ◌<◌, ◌+◌, ◌-◌, s
 use Rattle.lib_base.proofs.Prelude.{length-append, eqb, arith}
 use Rattle.lib_base.specs.Basics.{pick}
 use Rattle.lib_base.proofs.Tools.{by_test}
-use Rattle.lib_word.specs.Word.{put}
 use Rattle.format_image.proofs.ImageLaws.{length_padded}
 use Rattle.draft_form.specs.Draft.{entry_of}
 use Rattle.draft_form.specs.Entry.{entry_kind, entry_count}
 use Rattle.back_counts.specs.Counts.{EntriesInside, share_of, count_event, count_members}
 use Rattle.back_counts.proofs.CountLaws.{total_le, share_small}
 use Rattle.back_emit.specs.Words.{each}
-use Rattle.back_emit.specs.Writing.{Room, Wrote}
-use Rattle.back_emit.proofs.WritingLaws.{wrote_then, wrote_two}
-use Rattle.back_parts.proofs.PartLaws.{wrote_one, wrote_padded}
+use Rattle.back_emit.specs.Writing.{Table, Room, Wrote}
+use Rattle.back_emit.proofs.WritingLaws.{wrote_then}
+use Rattle.back_parts.proofs.PartLaws.{wrote_padded}
 use Rattle.back_passives.specs.PassiveWords.{kind_word, again_share, count_again, again_start, stretch_words, draft_passive_words}
 
 -- ---- small sums
@@ -40,32 +39,30 @@ start_small ev all m count = by_test (λ x. x ≤ all) (eqb ev 0) (λ _. omega a
 
 -- ---- kinds
 
-pub kind_wrote : (d : List ℕ) (i : ℕ) {v w : ℕ} {t t' : List ℕ} {k : ℕ} → v ≡ entry_of d 0 i → w ≡ pick (eqb (entry_kind v) 1) 1 0 → t' ≡ put t k w
-    → Wrote t k (kind_word d i) t' (k + 1)
+pub kind_is : (d : List ℕ) (i : ℕ) {v w : ℕ} → v ≡ entry_of d 0 i → w ≡ pick (eqb (entry_kind v) 1) 1 0 → w ∷ [] ≡ kind_word d i
 unfolding kind_word
-kind_wrote d i e f q = rw (← e, ← f) (wrote_one q)
+kind_is d i e f = rw (← e, ← f) refl
 
 pub length_kinds : (d : List ℕ) (n : ℕ) → length (each n (kind_word d)) ≡ n
 unfolding each kind_word
 length_kinds d zero = refl
 length_kinds d (suc n) = rw length-append (omega (arith, length_kinds d n))
 
-pub kind_room : (d : List ℕ) (i : ℕ) {t : List ℕ} {k : ℕ} → Room t k (kind_word d i) → (k + 1 ≤ 8704) × (34816 ≤ length t)
-unfolding kind_word
-kind_room d i r = (omega (arith, r.within), r.long)
+pub kinds_next : (d : List ℕ) (n : ℕ) {t t' : Table} {k r : ℕ} → Wrote t k (each n (kind_word d)) t' r → r ≡ k + n
+kinds_next d n w = omega (arith, w.next, length_kinds d n)
 
-pub kinds_room : (d : List ℕ) (n : ℕ) {t : List ℕ} {k : ℕ} → k + n ≤ 8704 → 34816 ≤ length t → Room t k (each n (kind_word d))
+pub kinds_room : (d : List ℕ) (n : ℕ) {t : Table} {k : ℕ} → k + n ≤ 8704 → 34816 ≤ length t.now → Room t k (each n (kind_word d))
 kinds_room d n a b = record { within = omega (arith, length_kinds d n); long = b }
 
 -- ---- all of them
 
-pub passive_words_wrote : (d : List ℕ) (ev bs : ℕ) {t t₁ t₂ t₃ t₄ t₅ : List ℕ} {a b x y r : ℕ} → bs ≤ 64 → Wrote t 296 (each bs (kind_word d)) t₁ a
+pub passive_words_wrote : (d : List ℕ) (ev bs : ℕ) {t t₁ t₂ t₃ t₄ t₅ : Table} {a b e f x y r : ℕ} → bs ≤ 64 → Wrote t 296 (each bs (kind_word d)) t₁ a
     → Wrote t₁ a (replicate (360 - a) 0) t₂ b → x ≡ again_start ev (count_event d 0 bs) (count_members d 0 bs) (count_again d bs) → y ≡ count_again d bs
-    → t₃ ≡ put t₂ 360 x → t₄ ≡ put t₃ 361 y → Wrote t₄ 362 (replicate (512 - 362) 0) t₅ r → Wrote t 296 (draft_passive_words d ev bs) t₅ r × (r ≡ 512)
+    → Wrote t₂ b (x ∷ []) t₃ e → Wrote t₃ e (y ∷ []) t₄ f → Wrote t₄ f (replicate (512 - f) 0) t₅ r → Wrote t 296 (draft_passive_words d ev bs) t₅ r × (r ≡ 512)
 unfolding draft_passive_words stretch_words
-passive_words_wrote d ev bs {b = b} {x = x} {y = y} {r = r} small w z e f g h v =
+passive_words_wrote d ev bs {b = b} {f = f} {x = x} {y = y} {r = r} small w z g h p q v =
     let kinds = wrote_padded 64 w z in
-    let p : b ≡ 360 = omega (arith, kinds.next, length_padded 64 (each bs (kind_word d)) (omega (arith, length_kinds d bs))) in
-    let two = wrote_two g h in
-    let rest = wrote_padded 152 two v in
-    (wrote_then (rw p at kinds) (rw (e, f) at rest), omega (arith, rest.next, length_padded 152 (x ∷ y ∷ []) (omega arith)))
+    let k : b ≡ 360 = omega (arith, kinds.next, length_padded 64 (each bs (kind_word d)) (omega (arith, length_kinds d bs))) in
+    let l : 512 ≡ b + 152 = omega arith in
+    let rest = wrote_padded 152 (wrote_then p q) (rw l at v) in
+    (wrote_then kinds (rw (g, h) at rest), omega (arith, rest.next, length_padded 152 (x ∷ y ∷ []) (omega arith)))

@@ -1,2 +1,1 @@
-pub mod PhaseLaws
 pub mod PhasesAre

@@ -1,6 +1,6 @@
 -- The check on dependence of one event, on its draft (crate draft_form): phase one's order, and whether everyone that
 -- has a turn there stands in it.
-use Rattle.std.specs.Prelude.{ℕ, ◌-◌, ◌≤◌, ◌<◌, Bool, true, false, not, ◌≡◌, List, length, get_or, take, eqb, ltb}
+use Rattle.std.specs.Prelude.{ℕ, ◌-◌, ◌≤◌, ◌<◌, Bool, not, ◌≡◌, List, length, get_or, take, eqb, ltb, Option, Some, None}
 use Rattle.lib_base.specs.Basics.{pick}
 use Rattle.lib_bits.specs.Bits.{bit}
 use Rattle.spec_language.specs.Refusals.{cycle}
@@ -10,8 +10,6 @@ use Rattle.draft_form.specs.Entry.{entry_kind}
 use Rattle.check_graph.specs.Matrix.{cell}
 use Rattle.check_faults.specs.Checks.{matrix_on}
 use Rattle.back_counts.specs.Counts.{total}
-use Rattle.back_schedule.specs.declared.Order.{Order}
-use Rattle.back_schedule.specs.declared.Order.TheVariants.{Complete, Circular}
 
 -- the mark of a behaviour whose entry is v: 0 for a passive or an immediate handler, 1 for whoever is met at once
 unfoldable pub met_mark : ℕ → ℕ
@@ -44,15 +42,15 @@ unfoldable pub is_ordered : List ℕ → ℕ → ℕ → Bool
 is_ordered d e n = not (ltb (length (order_under d e n)) (count_turns d e n))
 
 -- 01's number for what the check found, 0 where nothing is refused; and how many stand in the order
-abbrev pub order_refusal : Order → ℕ
-order_refusal (Complete count) = 0
-order_refusal Circular = cycle
+abbrev pub order_refusal : Option ℕ → ℕ
+order_refusal (Some count) = 0
+order_refusal None = cycle
 
-abbrev pub order_count : Order → ℕ
-order_count (Complete count) = count
-order_count Circular = 0
+abbrev pub order_count : Option ℕ → ℕ
+order_count (Some count) = count
+order_count None = 0
 
 -- what the check answers, and the bytes of the order where it refuses nothing
-abbrev pub Checked : List ℕ → ℕ → ℕ → Order → List ℕ → Type 0
+abbrev pub Checked : List ℕ → ℕ → ℕ → Option ℕ → List ℕ → Type 0
 Checked d e n r o =
     (order_refusal r ≡ pick (is_ordered d e n) 0 cycle) × (order_refusal r ≡ 0 → OrderHolds o (order_count r) n (order_under d e n))

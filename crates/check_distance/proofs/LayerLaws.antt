@@ -1,19 +1,22 @@
 -- What the loops over the levels keep: each level is that of `layer`, by the bits of the rows.
 use Rattle.lib_base.proofs.Prelude.{ℕ, ◌≤◌, ◌<◌, ◌+◌, ◌-◌, suc, zero, ◌^◌, ◌≡◌, refl, ◌∙◌, sym, ap, true, false, Bool}
 use Rattle.lib_base.proofs.Prelude.{◌||◌, ◌&&◌, not, or-false, and-false, and-true, ◌≢◌, by_cases, List, length, get_or}
-use Rattle.lib_base.proofs.Prelude.{length-set, set, get_or-set_other, get_or-set_same, eqb, ltb, sub-zero, add-one, dec_lt}
-use Rattle.lib_base.proofs.Prelude.{ne_eqb, eqb-true, le-ltb, lt-ltb, eq-eqb, eqb-false, arith}
+use Rattle.lib_base.proofs.Prelude.{set, get_or-set_other, get_or-set_same, eqb, sub-zero, add-one, dec_lt}
+use Rattle.lib_base.proofs.Prelude.{ne_eqb, eqb-true, eq-eqb, eqb-false, arith}
 use lib.Bits.{bit_and, and_le_l}
 use borrow.Author.Count.{below_none, below_more}
 use Rattle.lib_base.proofs.Tools.{split}
 use Rattle.lib_bits.specs.Bits.{bit}
 use Rattle.lib_bits.proofs.BitLaws.{bit_of_and, bit_none}
+use Rattle.std.specs.Prelude.{Option}
 use Rattle.check_graph.specs.Any.{any_below}
+use Rattle.check_graph.specs.First.{FirstOf}
+use Rattle.check_graph.proofs.First.{first_alike}
 use Rattle.check_graph.specs.Matrix.{cell}
 use Rattle.check_graph.specs.Sets.{RowsBelow, bytes_of}
-use Rattle.check_graph.proofs.Any.{any_none, any_some, any_never, any_same, any_short}
+use Rattle.check_graph.proofs.Any.{any_none, any_never, any_same, any_short}
 use Rattle.check_graph.proofs.SetLaws.{bits_none, cell_bytes_law}
-use Rattle.check_distance.specs.Layers.{layer, least_from, steps_back, Lowest, walks_on, Leading, Layered, Back}
+use Rattle.check_distance.specs.Layers.{layer, least_from, steps_back, walks_on, Leading, Layered, Back}
 
 -- ---- what two sets share
 
@@ -28,45 +31,14 @@ share_is a b l =
     (λ u. absurd (eqb-false (bit_and a b) 0 t
     (bits_none 64 (bit_and a b) (omega (arith, and_le_l a b)) (λ h c. bit_of_and a b h ∙ any_never 64 (both a b) u h c))))))
 
--- ---- the lowest
-
--- none of those passed
-pub record Passed (f : ℕ → Bool) (n h : ℕ) : Type 0 where
-  pub within : h ≤ n
-  pub none : (x : ℕ) → x < h → f x ≡ false
-
-module _ {f : ℕ → Bool} {n : ℕ} where
-  pub passed_start : Passed f n 0
-  passed_start = record { within = omega arith; none = below_none _ }
-
-  pub passed_turn : {h : ℕ} → Passed f n h → h < n → f h ≡ false → Passed f n (h + 1)
-  passed_turn p b e = record { within = omega arith; none = below_more _ _ p.none e }
-
-  pub passed_stop : {h : ℕ} → Passed f n h → f h ≡ true → Lowest f n h
-  passed_stop p e = record { within = p.within; before = p.none; found = λ b. e }
-
-  pub passed_end : {h : ℕ} → Passed f n h → n ≤ h → Lowest f n h
-  passed_end p b = record { within = p.within; before = p.none; found = λ c. absurd (omega arith) }
-
--- whether there is one
-pub lowest_any : {f : ℕ → Bool} {n r : ℕ} → Lowest f n r → ltb r n ≡ any_below n f
-lowest_any {f} {n} {r} w =
-    by_cases (dec_lt r n)
-    (λ b. lt-ltb r n b ∙ sym (any_some n f r b (w.found b)))
-    (λ b. le-ltb r n (omega arith) ∙ sym (any_none n f (λ h c. w.before h (omega (arith, w.within)))))
-
 -- ---- those that lead to a set
 
 pub record Led (m : List ℕ) (n set found j : ℕ) : Type 0 where
   pub row : (x : ℕ) → x < j → bit found x ≡ any_below n (walks_on m set x)
   pub none : (x : ℕ) → j ≤ x → bit found x ≡ false
-  pub within : j ≤ n
 
 pub led_start : (m : List ℕ) (n set : ℕ) → Led m n set 0 0
-led_start m n set = record { row = below_none _; none = λ x h. bit_none x; within = omega arith }
-
-pub led_end : {m : List ℕ} {n set found j : ℕ} → Led m n set found j → n ≤ j → Leading m n set found
-led_end w h = record { row = λ x b. w.row x (omega (arith, w.within)) }
+led_start m n set = record { row = below_none _; none = λ x h. bit_none x }
 
 module _ (rows : List ℕ) (n : ℕ) (few : n ≤ 64) where
   abbrev m : List ℕ
@@ -76,12 +48,8 @@ module _ (rows : List ℕ) (n : ℕ) (few : n ≤ 64) where
   unfolding walks_on
   onward_is set j h a b = ap (λ (x : Bool). x && bit set h) (sym (cell_bytes_law rows j h (omega arith) (omega arith)))
 
-  pub lowest_onward : (set j : ℕ) {r : ℕ} → j < n → Lowest (both (get_or rows j 0) set) n r → Lowest (walks_on m set j) n r
-  lowest_onward set j {r} a w = record {
-    within = w.within;
-    before = λ h b. sym (onward_is set j h a (omega (arith, w.within))) ∙ w.before h b;
-    found = λ b. sym (onward_is set j r a b) ∙ w.found b;
-  }
+  pub first_onward : (set j : ℕ) (o : Option ℕ) → j < n → FirstOf (both (get_or rows j 0) set) n o → FirstOf (walks_on m set j) n o
+  first_onward set j o a w = first_alike _ _ n (λ h b. onward_is set j h a b) o w
 
   module _ (low : RowsBelow rows n) where
     pub shares : (set j : ℕ) → j < n → any_below 64 (both (get_or rows j 0) set) ≡ any_below n (walks_on m set j)
@@ -95,7 +63,6 @@ module _ (rows : List ℕ) (n : ℕ) (few : n ≤ 64) where
       row = below_more _ _ (λ x b. e x ∙ others x (omega arith) ∙ w.row x b)
           (e j ∙ rw (w.none j (omega arith), eq-eqb j j refl) (and-true (any_below 64 (both (get_or rows j 0) set)) ∙ shares set j h));
       none = λ x b. e x ∙ others x (omega arith) ∙ w.none x (omega arith);
-      within = omega arith;
     }
       where
         others : (x : ℕ) → x ≢ j → bit found x || (any_below 64 (both (get_or rows j 0) set) && eqb x j) ≡ bit found x
@@ -138,23 +105,19 @@ module _ (m : List ℕ) (n i : ℕ) where
   pub record Trying (s : List ℕ) (k : ℕ) : Type 0 where
     pub walks : Layered m n i s k
     pub whole : least_from home (n - k) (k + 1) ≡ least_from home n 1
-    pub within : k ≤ n
-    pub long : length s ≡ 65
 
   pub trying_start : (s : List ℕ) (v : ℕ) → length s ≡ 65 → ((x : ℕ) → bit v x ≡ bit 0 x || eqb x i) → Trying (set s 0 v) 0
-  trying_start s v l e = record { walks = first_layer s v (omega arith) e; whole = rw sub-zero; within = omega arith; long = rw length-set l }
+  trying_start s v l e = record { walks = first_layer s v (omega arith) e; whole = rw sub-zero }
 
-  pub trying_turn : {s : List ℕ} {k v : ℕ} → Trying s k → n ≤ 64 → k < n → false ≡ any_below n (walks_on m (get_or s k 0) i) → Leading m n (get_or s k 0) v → Trying (set s (k + 1) v) (k + 1)
+  pub trying_turn : {s : List ℕ} {k v : ℕ} → Trying s k → length s ≡ 65 → n ≤ 64 → k < n → false ≡ any_below n (walks_on m (get_or s k 0) i) → Leading m n (get_or s k 0) v → Trying (set s (k + 1) v) (k + 1)
   unfolding least_from
-  trying_turn {s} {k} {v} w few b t f =
+  trying_turn {s} {k} {v} w l few b t f =
       let e : home (k + 1) ≡ false = sym (layer_next w.walks i) ∙ sym t in
       let c : n - k ≡ suc (n - (k + 1)) = omega arith in
       let step : least_from home (suc (n - (k + 1))) (k + 1) ≡ least_from home (n - (k + 1)) (suc (k + 1)) = rw (e, least_from) in
       record {
-        walks = more_layers (omega (arith, w.long)) w.walks f;
+        walks = more_layers (omega arith) w.walks f;
         whole = rw (add-one (k + 1)) (sym step ∙ (rw c at w.whole));
-        within = omega arith;
-        long = rw length-set w.long;
       }
 
   pub trying_stop : {s : List ℕ} {k : ℕ} → Trying s k → k < n → true ≡ any_below n (walks_on m (get_or s k 0) i) → Back m n i (k + 1) s
@@ -166,11 +129,10 @@ module _ (m : List ℕ) (n i : ℕ) where
       let z : k + 1 - 1 ≡ k = omega arith in
       record { steps = sym step ∙ (rw c at w.whole); layers = λ t. rw z w.walks }
 
-  pub trying_end : {s : List ℕ} {k : ℕ} → Trying s k → n ≤ k → Back m n i (n + 1) s
+  pub trying_end : {s : List ℕ} {k : ℕ} → Trying s k → k ≡ n → Back m n i (n + 1) s
   unfolding least_from steps_back
-  trying_end {s} {k} w h =
+  trying_end {s} {k} w z =
       let c : n - k ≡ 0 = omega arith in
-      let z : k ≡ n = omega (arith, w.within) in
       record { steps = rw z at (rw c at w.whole); layers = λ t. absurd (omega arith) }
 
   -- where a level is empty all that follow are
@@ -187,10 +149,10 @@ module _ (m : List ℕ) (n i : ℕ) where
   least_none f zero a e = omega arith
   least_none f (suc k) a e = rw (e a (omega arith), least_from) (least_none f k (suc a) (λ x b. e x (omega arith)) ∙ omega arith)
 
-  pub trying_none : {s : List ℕ} {k : ℕ} → Trying s k → i < n → get_or s k 0 ≡ 0 → Back m n i (n + 1) s
+  pub trying_none : {s : List ℕ} {k : ℕ} → Trying s k → i < n → k < n → get_or s k 0 ≡ 0 → Back m n i (n + 1) s
   unfolding steps_back
-  trying_none {s} {k} w b h =
+  trying_none {s} {k} w b l h =
       let e : (j : ℕ) → j < n → layer dep n k i j ≡ false = λ j c. sym (w.walks.walks k j (omega arith) c) ∙ rw h (bit_none j) in
       let later : (x : ℕ) → k + 1 ≤ x → home x ≡ false = λ x c. none_later k e x (omega arith) i b in
-      let z : k + 1 + (n - k) ≡ n + 1 = omega (arith, w.within) in
+      let z : k + 1 + (n - k) ≡ n + 1 = omega arith in
       record { steps = rw z at (sym (least_none home (n - k) (k + 1) later) ∙ w.whole); layers = λ t. absurd (omega arith) }

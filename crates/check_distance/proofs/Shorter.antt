@@ -1,6 +1,6 @@
 -- A circle in which a behaviour stands twice has a shorter one in it: from the first time to the second. So a shortest
 -- circle has distinct members, as many as there are numbers at the most.
-use Rattle.lib_base.proofs.Prelude.{ℕ, ◌≤◌, ◌<◌, ◌+◌, ◌≡◌, ◌∙◌, sym, subst, true, false, Bool, ◌≢◌, ◌⊎◌, ⊎_elim, inr}
+use Rattle.lib_base.proofs.Prelude.{ℕ, ◌≤◌, ◌<◌, ◌≡◌, ◌∙◌, sym, subst, true, false, Bool, ◌≢◌, ◌⊎◌, ⊎_elim, inr}
 use Rattle.lib_base.proofs.Prelude.{inl, List, [], ◌∷◌, ◌++◌, List-as-Nodup, Pairwise·of-cons, Pairwise·cons, length}
 use Rattle.lib_base.proofs.Prelude.{length-set, set, replicate, length-replicate, get_or-set_other, eqb, eqb-true}
 use Rattle.lib_base.proofs.Prelude.{eqb-false, arith}

@@ -2,17 +2,21 @@
 -- are left lead to i.
 use Rattle.lib_base.proofs.Prelude.{ℕ, ◌≤◌, ◌<◌, ◌+◌, ◌-◌, suc, ◌≡◌, refl, ◌∙◌, sym, ap, subst, true, Bool, ◌&&◌}
 use Rattle.lib_base.proofs.Prelude.{and-eq-true_iff, List, [], ◌∷◌, ◌++◌, append_assoc, length, get_or, drop, length-set}
-use Rattle.lib_base.proofs.Prelude.{set, length-append, drop-cons, sub-zero, add-one, eqb-true, ltb-true, arith}
+use Rattle.lib_base.proofs.Prelude.{set, length-append, drop-cons, sub-zero, add-one, eqb-true, arith}
 use lib.Seq.{set_at}
 use Rattle.lib_base.specs.Basics.{All}
 use Rattle.lib_base.proofs.Tools.{all_join}
 use Rattle.lib_bits.specs.Bits.{bit}
+use Rattle.std.specs.Prelude.{Option, Some}
+use Rattle.std.specs.Option.{IsSome}
+use Rattle.check_graph.specs.Any.{any_below}
+use Rattle.check_graph.specs.First.{FirstOf}
 use Rattle.check_graph.specs.Matrix.{cell}
 use Rattle.check_graph.proofs.Any.{any_same}
 use Rattle.check_distance.specs.Circle.{Chain, Circle}
-use Rattle.check_distance.specs.Layers.{layer, Lowest, walks_on, Layered, Walked}
+use Rattle.check_distance.specs.Layers.{layer, walks_on, Layered, Walked}
 use Rattle.check_distance.proofs.Shorter.{chain_on}
-use Rattle.check_distance.proofs.LayerLaws.{lowest_any}
+use Rattle.check_graph.proofs.First.{first_there}
 
 -- from i along the list to z
 abbrev Lead : (ℕ → ℕ → Bool) → ℕ → List ℕ → ℕ → Type 0
@@ -42,36 +46,31 @@ module _ (m : List ℕ) (n i r : ℕ) (list₀ : List ℕ) where
     pub bytes : list ≡ passed ++ drop t list₀
     pub long : length list ≡ length list₀
 
-  pub going_start : i < n → layer dep n r i i ≡ true → Going list₀ i 0
-  going_start b h = record {
-    passed = [];
-    count = refl;
-    below = tt;
-    lead = refl;
-    left = rw sub-zero h;
-    here = b;
-    within = omega arith;
-    bytes = refl;
-    long = refl;
-  }
-
-  -- the next one
-  next : (s : List ℕ) (at t h : ℕ) → Layered m n i s (r - 1) → t < r → layer dep n (r - t) i at ≡ true → Lowest (walks_on m (get_or s (r - 1 - t) 0) at) n h
-      → (h < n) × (dep at h ≡ true) × (layer dep n (r - (t + 1)) i h ≡ true)
+  -- there is a next one, and from it one step less leads to i
+  onward : (s : List ℕ) (at t : ℕ) → Layered m n i s (r - 1) → t < r → any_below n (walks_on m (get_or s (r - 1 - t) 0) at) ≡ layer dep n (r - t) i at
   unfolding layer walks_on
-  next s at t h w b e low =
+  onward s at t w b =
       let k = r - 1 - t in
       let z : r - t ≡ suc (r - 1 - t) = omega arith in
-      let y : r - (t + 1) ≡ r - 1 - t = omega arith in
-      let same = any_same n (walks_on m (get_or s k 0) at) (λ x. dep at x && layer dep n k i x) (λ x c. ap (λ v. dep at x && v) (w.walks k x (omega arith) c)) in
-      let found : h < n = ltb-true h n (lowest_any low ∙ same ∙ (rw z at e)) in
-      let q = (and-eq-true_iff (dep at h) (bit (get_or s k 0) h)).0 (low.found found) in
-      (found, q.0, rw y (sym (w.walks k h (omega arith) found) ∙ q.1))
+      rw z (any_same n (walks_on m (get_or s k 0) at) (λ x. dep at x && layer dep n k i x) (λ x c. ap (λ v. dep at x && v) (w.walks k x (omega arith) c)))
 
-  pub going_turn : {s list : List ℕ} {at t h : ℕ} → Going list at t → 64 ≤ length list₀ → n ≤ 64 → r ≤ n → Layered m n i s (r - 1) → t < r
-      → Lowest (walks_on m (get_or s (r - 1 - t) 0) at) n h → Going (set list t at) h (t + 1)
-  going_turn {s} {list} {at} {t} {h} g l few c w b low =
-      let v = next s at t h w b g.left low in
+  pub next_there : {s list : List ℕ} {at t : ℕ} (o : Option ℕ) → Going list at t → Layered m n i s (r - 1) → t < r
+      → FirstOf (walks_on m (get_or s (r - 1 - t) 0) at) n o → IsSome o
+  next_there {s} {list} {at} {t} o g w b low = first_there _ n o low (onward s at t w b ∙ g.left)
+
+  next : (s : List ℕ) (at t h : ℕ) → Layered m n i s (r - 1) → t < r → FirstOf (walks_on m (get_or s (r - 1 - t) 0) at) n (Some h)
+      → (h < n) × (dep at h ≡ true) × (layer dep n (r - (t + 1)) i h ≡ true)
+  unfolding walks_on
+  next s at t h w b low =
+      let k = r - 1 - t in
+      let y : r - (t + 1) ≡ r - 1 - t = omega arith in
+      let q = (and-eq-true_iff (dep at h) (bit (get_or s k 0) h)).0 low.1 in
+      (low.0, q.0, rw y (sym (w.walks k h (omega arith) low.0) ∙ q.1))
+
+  pub going_turn : {s list : List ℕ} {at t h : ℕ} {o : Option ℕ} → Going list at t → 64 ≤ length list₀ → n ≤ 64 → r ≤ n → Layered m n i s (r - 1) → t < r
+      → FirstOf (walks_on m (get_or s (r - 1 - t) 0) at) n o → o ≡ Some h → Going (set list t at) h (t + 1)
+  going_turn {s} {list} {at} {t} {h} g l few c w b low e =
+      let v = next s at t h w b (rw e at low) in
       let p = g.passed in
       let inside : t < length list₀ = omega arith in
       let written : set (p ++ (get_or list₀ t 0 ∷ drop (suc t) list₀)) t at ≡ p ++ (at ∷ drop (suc t) list₀) =

@@ -23,12 +23,6 @@ steps_back dep n i = least_from (λ k. layer dep n k i i) n 1
 
 -- ---- what the code does
 
--- r is the lowest below n of which f is true, n if there is none
-pub record Lowest (f : ℕ → Bool) (n r : ℕ) : Type 0 where
-  pub within : r ≤ n
-  pub before : (h : ℕ) → h < r → f h ≡ false
-  pub found : r < n → f r ≡ true
-
 -- from j on to one of the set
 unfoldable pub walks_on : List ℕ → ℕ → ℕ → ℕ → Bool
 walks_on m set j h = cell m j h && bit set h

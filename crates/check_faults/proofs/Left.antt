@@ -1,7 +1,10 @@
 -- Who is placed, each after its needs, does not reach itself: along the order (crate spec_semantics).
-use Rattle.lib_base.proofs.Prelude.{ℕ, ◌≤◌, ◌<◌, ◌≡◌, refl, ◌∙◌, sym, ap, subst, true, false, Bool, true≢false, ◌⊎◌}
+use Rattle.lib_base.proofs.Prelude.{ℕ, zero, suc, ◌≤◌, ◌<◌, ◌-◌, ◌^◌, not, eqb, ◌≡◌, refl, ◌∙◌, sym, ap, subst, true, false, Bool, true≢false, ◌⊎◌}
 use Rattle.lib_base.proofs.Prelude.{⊎_elim, inr, inl, List, length, get_or, arith}
-use Rattle.lib_base.proofs.Tools.{split}
+use Rattle.lib_base.proofs.Tools.{by_test, split}
+use Rattle.std.specs.Prelude.{Option, None}
+use Rattle.std.specs.Int.{w64, bit_not, bit_at}
+use Rattle.std.proofs.lemmas.Nat.Bits.{bit_at_not, bit_at-lt}
 use Rattle.lib_bits.specs.Bits.{bit}
 use Rattle.lib_bits.proofs.BitLaws.{bit_none}
 use Rattle.spec_language.specs.Dependence.{Reach, one, more}
@@ -9,13 +12,15 @@ use Rattle.spec_language.specs.Order.{order, up_to}
 use Rattle.spec_language.proofs.Laws.{get_d_up_to}
 use Rattle.spec_semantics.proofs.OrderLaws.{mark_all, order_ordered, along}
 use Rattle.draft_form.specs.Draft.{draft_length}
+use Rattle.check_graph.specs.First.{FirstOf}
+use Rattle.check_graph.proofs.First.{first_alike}
 use Rattle.check_graph.specs.Matrix.{cell, cell_below, closed}
 use Rattle.check_graph.specs.Placing.{placed, order_on, is_marked}
 use Rattle.check_graph.specs.Sets.{bytes_of, marks_of}
 use Rattle.check_graph.proofs.Closure.{below_says, below_is, closed_decides, closed_same}
 use Rattle.check_graph.proofs.OrderIs.{order_same, order_marks}
 use Rattle.check_graph.proofs.SetLaws.{length_bytes, length_marks, marked_is}
-use Rattle.check_faults.specs.Checks.{matrix_on, closed_on, RowsAre, PlacedOn, RowsInside}
+use Rattle.check_faults.specs.Checks.{matrix_on, closed_on, RowsAre, PlacedOn, LeftClosed, left_round, RoundOn, RowsInside}
 use Rattle.check_faults.proofs.RowLaws.{length_matrix_on, rows_cells}
 
 first_step : {dep : ℕ → ℕ → Bool} {a c : ℕ} → Reach dep a c → (b : ℕ) × (dep a b ≡ true) × ((b ≡ c) ⊎ Reach dep b c)
@@ -69,6 +74,23 @@ module _ (rows : List ℕ) (n : ℕ) (few : n ≤ 64) (count s : ℕ) (out out' 
         (λ t. absurd (not_reached i b h ((closed_decides (bytes_of rows) n (length_bytes rows) few i i b b).0 t))) (λ t. t);
   }
 
+-- who is not in a set
+pub bit_of_not : (s i : ℕ) → s < 2 ^ 64 → i < 64 → bit (bit_not w64 s) i ≡ not (bit s i)
+unfolding bit
+bit_of_not s i h b = ap (λ (x : ℕ). eqb x 1) (bit_at_not w64 s i h b) ∙ digit (bit_at s i) (bit_at-lt s i)
+  where
+    digit : (x : ℕ) → x < 2 → eqb (1 - x) 1 ≡ not (eqb x 1)
+    digit zero h = refl
+    digit (suc zero) h = refl
+    digit (suc (suc x)) h = absurd (omega arith)
+
+pub left_first : (s n : ℕ) (o : Option ℕ) → s < 2 ^ 64 → n ≤ 64 → FirstOf (bit (bit_not w64 s)) n o → FirstOf (λ i. not (bit s i)) n o
+left_first s n o h few w = first_alike _ _ n (λ i b. bit_of_not s i h (omega arith)) o w
+
+-- none is left: all are in the set
+pub none_left : (s n : ℕ) → FirstOf (λ i. not (bit s i)) n None → (i : ℕ) → i < n → bit s i ≡ true
+none_left s n w i b = split (bit s i) (λ t. t) (λ t. absurd (true≢false (sym (ap not t) ∙ w i b)))
+
 -- by the rows as by the matrix
 pub rows_closed : (d : List ℕ) → length d ≡ draft_length → (e n : ℕ) → n ≤ 64 → RowsInside d e n → {rows : List ℕ} → RowsAre d e n rows → (i : ℕ) → i < n
     → cell (closed (bytes_of rows) n) i i ≡ cell (closed_on d e n) i i
@@ -76,3 +98,13 @@ unfolding closed_on
 rows_closed d l e n few inside {rows} w i h =
     closed_same (bytes_of rows) (matrix_on d e n) n (length_bytes rows) (length_matrix_on d e n) few
     (rows_cells d l e n few inside w) i i h h
+
+-- who is placed does not reach itself, of another the closed rows tell it
+pub round_told : (d : List ℕ) (e n : ℕ) {set : ℕ} {rows after : List ℕ} → length d ≡ draft_length → n ≤ 64 → RowsInside d e n → RowsAre d e n rows → PlacedOn rows n set
+    → LeftClosed rows set n after → RoundOn d e n set after
+unfolding left_round
+round_told d e n {set} {rows} {after} l few inside w p k = record {
+  told = λ b h. by_test (λ x. x ≡ cell (closed_on d e n) b b) (bit set b)
+      (λ t. sym (p.none_round b h t) ∙ rows_closed d l e n few inside w b h)
+      (λ t. k.reached b h t ∙ rows_closed d l e n few inside w b h);
+}

@@ -5,3 +5,4 @@ pub mod CycleDecides
 pub mod DraftChecks
 pub mod RowLaws
 pub mod Left
+pub mod Search

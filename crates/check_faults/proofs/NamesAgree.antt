@@ -4,6 +4,7 @@ use Rattle.lib_base.proofs.Prelude.{ℕ, ◌≤◌, ◌<◌, ◌+◌, suc, zero,
 use Rattle.lib_base.proofs.Prelude.{and-false, and-true, List, [], ◌∷◌, ◌++◌, length, get_or, take, take-suc, ltb, leb}
 use Rattle.lib_base.proofs.Prelude.{ne_eqb, ltb-false, ltb-true, lt-leb, le-leb, arith}
 use mathlib.Core.Bool.{and_assoc}
+use Rattle.std.specs.List.{list_any}
 use Rattle.lib_base.specs.Basics.{All}
 use Rattle.lib_base.proofs.Tools.{split}
 use Rattle.spec_language.specs.Syntax.{Expr, Handler, handler, Behaviour, passive, active}
@@ -105,6 +106,15 @@ pass_fine d b (suc n) h =
     split (stray (get_or d n 0) b)
     (λ t. rw (e, t, names_known, and-false (fine b (take n d))))
     (λ t. rw (e, t, names_known, and-true) ih)
+
+-- as the code asks it
+fine_any : (b : ℕ) (l : List ℕ) → fine b l ≡ not (list_any (λ x. stray x b) l)
+unfolding fine
+fine_any b [] = refl
+fine_any b (x ∷ l) = split (stray x b) (λ t. rw t refl) (λ t. rw t (fine_any b l))
+
+pub pass_any : (d : List ℕ) (b n : ℕ) → n ≤ length d → names_known d b n ≡ not (list_any (λ x. stray x b) (take n d))
+pass_any d b n h = pass_fine d b n h ∙ fine_any b (take n d)
 
 -- of n nodes that are those of the behaviours ys
 pub names_known_is : (d : List ℕ) (b n m : ℕ) (ys : List Behaviour) → n ≤ length d → take n d ≡ program_nodes ys → All (BehaviourFits m) ys → names_known d b n ≡ known_behaviours b ys

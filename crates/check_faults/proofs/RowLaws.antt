@@ -1,9 +1,10 @@
 -- The rows as sets are the rows of the matrix: both take in the same names, node by node.
 use Rattle.lib_base.proofs.Prelude.{ℕ, ◌≤◌, ◌<◌, ◌+◌, suc, zero, ◌*◌, ◌≡◌, refl, ◌∙◌, sym, ap, subst, true, false}
 use Rattle.lib_base.proofs.Prelude.{Bool, ◌||◌, ◌&&◌, not, or-false, and-false, ◌≢◌, by_cases, List, [], ◌∷◌, length}
-use Rattle.lib_base.proofs.Prelude.{get_or, take, drop, length-set, set, length-drop, get_or-set_other, get_or-set_same}
+use Rattle.lib_base.proofs.Prelude.{get_or, take, drop, set, length-drop, get_or-take, get_or-set_other, get_or-set_same}
 use Rattle.lib_base.proofs.Prelude.{get_or-drop, take-suc, eqb, ltb, add-one, dec_lt, ne_eqb, eqb-true, le-ltb, lt-ltb}
 use Rattle.lib_base.proofs.Prelude.{eq-eqb, eqb-false, arith}
+use borrow.Rule.Slice.PartMut.{mid_of}
 use Rattle.lib_base.proofs.Tools.{split}
 use Rattle.lib_bits.specs.Bits.{bit}
 use Rattle.lib_bits.proofs.BitLaws.{bit_none}
@@ -54,32 +55,32 @@ both : (l a m : Bool) → (l && a) || (l && m) ≡ l && (a || m)
 both true a m = refl
 both false a m = refl
 
-pub record Gathered (d : List ℕ) (i but n start count s k : ℕ) : Type 0 where
-  pub within : k ≤ count
+pub record Gathered (d : List ℕ) (i but n start s k : ℕ) : Type 0 where
   pub bits : (b : ℕ) → bit s b ≡ ltb b n && some_node_names but b (take k (drop start (used_by d i)))
 
-pub gathered_start : (d : List ℕ) (i but n start count : ℕ) → Gathered d i but n start count 0 0
-unfolding some_node_names
-gathered_start d i but n start count = record { within = omega arith; bits = λ b. bit_none b ∙ sym (and-false (ltb b n)) }
+-- node k of those from `start` on
+pub node_at : (d : List ℕ) (start m k : ℕ) → k < m → get_or (mid_of start m d) k 0 ≡ get_or d (start + k) 0
+node_at d start m k h =
+    let part : mid_of start m d ≡ take m (drop start d) = refl in
+    rw part (get_or-take m (drop start d) k 0 h ∙ get_or-drop start d k 0)
 
-pub gathered_turn : {d : List ℕ} {i but n start count s s' k x : ℕ} → Gathered d i but n start count s k → length d ≡ draft_length → start + count ≤ 2048 → k < count
-    → x ≡ moved d i (get_or d (start + k) 0) → ((b : ℕ) → bit s' b ≡ bit s b || (ltb b n && node_names but b x)) → Gathered d i but n start count s' (k + 1)
+pub gathered_start : (d : List ℕ) (i but n start : ℕ) → Gathered d i but n start 0 0
 unfolding some_node_names
-gathered_turn {d} {i} {but} {n} {start} {count} {s} {s'} {k} {x} g l h t q e =
+gathered_start d i but n start = record { bits = λ b. bit_none b ∙ sym (and-false (ltb b n)) }
+
+pub gathered_turn : {d : List ℕ} {i but n start s s' k x : ℕ} → Gathered d i but n start s k → start + k < length d → x ≡ moved d i (get_or d (start + k) 0)
+    → ((b : ℕ) → bit s' b ≡ bit s b || (ltb b n && node_names but b x)) → Gathered d i but n start s' (k + 1)
+unfolding some_node_names
+gathered_turn {d} {i} {but} {n} {start} {s} {s'} {k} {x} g l q e =
     let u = used_by d i in
     let r : k < length (drop start u) = rw length-drop (omega (arith, length_used d i)) in
     let z : x ≡ get_or (drop start u) k 0 = q ∙ sym (used_at d i (start + k)) ∙ sym (get_or-drop start u k 0) in
     let more : (b : ℕ) → some_node_names but b (take (suc k) (drop start u)) ≡ some_node_names but b (take k (drop start u)) || node_names but b x =
     λ b. rw (take-suc (drop start u) k 0 r, named_join but b (take k (drop start u)) (get_or (drop start u) k 0 ∷ []), ← z, some_node_names, or-false) in
     record {
-      within = omega arith;
       bits = λ b. e b ∙ ap (λ (y : Bool). y || (ltb b n && node_names but b x)) (g.bits b) ∙ both (ltb b n) _ (node_names but b x)
           ∙ rw (add-one k) (ap (λ (y : Bool). ltb b n && y) (sym (more b)));
     }
-
-pub gathered_end : {d : List ℕ} {i but n start count s k : ℕ} → Gathered d i but n start count s k → count ≤ k
-    → (b : ℕ) → bit s b ≡ ltb b n && some_node_names but b (take count (drop start (used_by d i)))
-gathered_end {count = count} {k = k} g h b = let z : k ≡ count = omega (arith, g.within) in rw z at (g.bits b)
 
 -- ---- one row
 
@@ -101,28 +102,8 @@ module _ (d : List ℕ) (i v b : ℕ) where
 
 -- ---- all rows
 
-pub record Filled (d : List ℕ) (e n : ℕ) (rows₀ rows : List ℕ) (i : ℕ) : Type 0 where
+pub record Filled (d : List ℕ) (e n : ℕ) (rows : List ℕ) (i : ℕ) : Type 0 where
   pub rows_so_far : (j b : ℕ) → j < i → bit (get_or rows j 0) b ≡ ltb b n && needs_on d j (entry_of d e j) b
-  pub within : i ≤ n
-  pub long : length rows ≡ length rows₀
-
-pub filled_start : (d : List ℕ) (e n : ℕ) (rows : List ℕ) → Filled d e n rows rows 0
-filled_start d e n rows = record { rows_so_far = λ j b h. absurd (omega arith); within = omega arith; long = refl }
-
-pub filled_turn : (r : ℕ) {d : List ℕ} {e n : ℕ} {rows₀ rows : List ℕ} {i v : ℕ} → Filled d e n rows₀ rows i → length rows₀ ≡ 64 → n ≤ 64 → i < n
-    → v ≡ entry_of d e i → ((b : ℕ) → bit r b ≡ ltb b n && needs_on d i v b) → Filled d e n rows₀ (set rows i r) (i + 1)
-filled_turn r {d} {e} {n} {rows₀} {rows} {i} {v} f l few h q k =
-    let here : i < length rows = omega (arith, f.long) in
-    record {
-      rows_so_far = λ j b c. by_cases (dec_lt j i)
-          (λ p. let x : j ≢ i = omega arith in rw (get_or-set_other rows i j r 0 x) (f.rows_so_far j b p))
-          (λ p. let x : j ≡ i = omega arith in rw (x, get_or-set_same rows i r 0 here, ← q) (k b));
-      within = omega arith;
-      long = rw length-set f.long;
-    }
-
-pub filled_end : {d : List ℕ} {e n : ℕ} {rows₀ rows : List ℕ} {i : ℕ} → Filled d e n rows₀ rows i → n ≤ i → RowsAre d e n rows
-filled_end f h = record { row = λ j b c. f.rows_so_far j b (omega arith) }
 
 -- ---- the matrix
 

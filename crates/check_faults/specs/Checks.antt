@@ -1,5 +1,5 @@
 -- The checks of a whole program on its draft, in the code's tests and order.
-use Rattle.std.specs.Prelude.{ℕ, zero, suc, ◌+◌, ◌*◌, ◌≤◌, ◌<◌, Bool, true, false, not, ◌&&◌, ◌||◌, ◌≡◌, List, [], ◌∷◌, length, get_or, set, replicate, take, drop, eqb, ltb, leb}
+use Rattle.std.specs.Prelude.{ℕ, zero, suc, ◌+◌, ◌*◌, ◌≤◌, ◌<◌, Bool, true, false, not, ◌&&◌, ◌||◌, ◌≡◌, List, [], ◌∷◌, get_or, set, replicate, take, drop, eqb, ltb, leb}
 use Rattle.lib_base.specs.Basics.{pick}
 use Rattle.lib_bits.specs.Bits.{bit}
 use Rattle.draft_form.specs.Draft.{entry_of, used_by}
@@ -81,15 +81,9 @@ cyclic_on d ev bs = any_below (ev + 1) (λ e. any_below bs (λ i. cell (closed_o
 pub record PlacedOn (rows : List ℕ) (n set : ℕ) : Type 0 where
   pub none_round : (i : ℕ) → i < n → bit set i ≡ true → cell (closed (bytes_of rows) n) i i ≡ false
 
--- the lowest of the first n that is not in the set
-pub record LowestLeft (set n r : ℕ) : Type 0 where
-  pub before : (i : ℕ) → i < r → bit set i ≡ true
-  pub within : r ≤ n
-
 -- of who is not in the set the row after has what is reached from it, by the rows of the first n
 pub record LeftClosed (rows : List ℕ) (set n : ℕ) (after : List ℕ) : Type 0 where
   pub reached : (i : ℕ) → i < n → bit set i ≡ false → bit (get_or after i 0) i ≡ cell (closed (bytes_of rows) n) i i
-  pub long : length after ≡ length rows
 
 -- who is in the set does not reach itself, of another its row tells it
 unfoldable pub left_round : ℕ → List ℕ → ℕ → Bool

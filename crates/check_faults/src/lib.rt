@@ -5,42 +5,44 @@
 
 #![tactic(auto)]
 
-ghost use Rattle.std.specs.Prelude.{◌≡◌, ℕ, ◌+◌, ◌*◌, ◌≤◌, ◌<◌, ◌&&◌, ◌||◌, length, take, drop, ltb};
+ghost use Rattle.std.specs.Prelude.{◌≡◌, ℕ, ◌+◌, ◌*◌, ◌≤◌, ◌<◌, ◌&&◌, ◌||◌, not, take, drop, ltb};
+ghost use Rattle.std.specs.List.{list_any};
 ghost use Rattle.lib_bits.specs.Bits.{bit};
 ghost use Rattle.draft_form.specs.Entry.{entry_start, entry_count};
-ghost use Rattle.draft_form.specs.Draft.{draft_length, used_by};
+ghost use Rattle.draft_form.specs.Draft.{used_by};
+ghost use Rattle.check_graph.specs.First.{FirstOf};
 ghost use Rattle.check_graph.specs.Sets.{RowsBelow};
 ghost use Rattle.check_faults.specs.Checks.{stray, names_known, node_names, some_node_names, needs_on, RowsAre, PlacedOn};
-ghost use Rattle.check_faults.specs.Checks.{LowestLeft, LeftClosed, left_round, RoundOn, cyclic_on, RowsInside, AllInside};
+ghost use Rattle.check_faults.specs.Checks.{LeftClosed, left_round, RoundOn, cyclic_on, RowsInside, AllInside};
 ghost use Rattle.draft_form.specs.Sizes.{draft_nodes};
 ghost use Rattle.spec_language.specs.Limits.{behaviour_limit, event_limit};
 
-use draft_form::layout;
+use check_graph::ROW;
+use draft_form::{Draft, layout};
 use spec_language::limits;
 
 // Whether a node is the name of none of b behaviours.
+#[tactic(auto, using(lib_base::proofs::Pick::branches), unfolding(crate::specs::Checks::stray))]
 fn is_stray(x: u64, b: usize) -> bool
     ensures { result ≡ stray x b }
 {
-    if x / layout::WORD == layout::NAME {
-        return x % layout::WORD >= b as u64;
-    }
-    false
+    x / layout::WORD == layout::NAME && x % layout::WORD >= b as u64
+}
+
+// Whether one of these nodes is the name of none of b behaviours.
+fn is_any_stray(nodes: &[u64], b: usize) -> bool
+    ensures { result ≡ list_any (λ x. stray x b) nodes.now }
+{
+    nodes.iter().any(|x| is_stray(*x, b))
 }
 
 // Whether every name among the first n nodes is that of one of b behaviours.
-pub fn names_known(d: &[u64], n: usize, b: usize) -> bool
-    requires { (length d.now ≡ draft_length) × (n ≤ draft_nodes) }
+#[tactic(auto, using(crate::proofs::NamesAgree::pass_any))]
+pub fn names_known(d: &Draft, n: usize, b: usize) -> bool
+    requires { n ≤ draft_nodes }
     ensures { result ≡ names_known d.now b n }
 {
-    let mut k = n;
-    while k > 0 {
-        k -= 1;
-        if is_stray(d[k], b) {
-            return false;
-        }
-    }
-    true
+    !is_any_stray(&d[..n], b)
 }
 
 // The set with the name that node x is, if it is one of the first n, but not that of number `but`.
@@ -50,32 +52,28 @@ fn add_need(set: u64, but: usize, n: usize, x: u64) -> u64
 {
     if x / layout::WORD == layout::NAME {
         let j = (x % layout::WORD) as usize;
-        if j < n {
-            if j != but {
-                return lib_bits::insert(set, j);
-            }
+        if j < n && j != but {
+            return lib_bits::insert(set, j);
         }
     }
     set
 }
 
 // The names of the first n among count nodes from start on, as behaviour i means them, as a set.
-fn need_set(d: &[u64], i: usize, but: usize, n: usize, start: usize, count: usize) -> u64
-    requires { (length d.now ≡ draft_length) × (i < behaviour_limit) × (n ≤ behaviour_limit) × (start + count ≤ draft_nodes) }
+fn need_set(d: &Draft, i: usize, but: usize, n: usize, start: usize, count: usize) -> u64
+    requires { (i < behaviour_limit) × (n ≤ behaviour_limit) × (start + count ≤ draft_nodes) }
     ensures { (b : ℕ) → bit result b ≡ ltb b n && some_node_names but b (take count (drop start (used_by d.now i))) }
 {
     let mut set = 0;
-    let mut k = 0;
-    while k < count {
-        set = add_need(set, but, n, draft_form::moved_node(d, i, d[start + k]));
-        k += 1;
+    for node in &d[start..start + count] {
+        set = add_need(set, but, n, draft_form::moved_node(d, i, *node));
     }
     set
 }
 
 // The needs of behaviour i with this entry among the first n, as a set.
-fn row_of(d: &[u64], i: usize, n: usize, entry: u64) -> u64
-    requires { (length d.now ≡ draft_length) × (i < behaviour_limit) × (n ≤ behaviour_limit) × (entry_start entry + entry_count entry ≤ draft_nodes) }
+fn row_of(d: &Draft, i: usize, n: usize, entry: u64) -> u64
+    requires { (i < behaviour_limit) × (n ≤ behaviour_limit) × (entry_start entry + entry_count entry ≤ draft_nodes) }
     ensures { (b : ℕ) → bit result b ≡ ltb b n && needs_on d.now i entry b }
 {
     let start = (entry / layout::KINDS % layout::FIRSTS) as usize;
@@ -90,55 +88,46 @@ fn row_of(d: &[u64], i: usize, n: usize, entry: u64) -> u64
 }
 
 // The needs of the first n behaviours on event e, a set for each.
-pub fn fill_rows(d: &[u64], e: usize, n: usize, rows: &mut [u64])
-    requires { (length d.now ≡ draft_length) × (length rows.old ≡ behaviour_limit) × (e ≤ event_limit) × (n ≤ behaviour_limit) × RowsInside d.now e n }
+pub fn fill_rows(d: &Draft, e: usize, n: usize, rows: &mut [u64; ROW])
+    requires { (e ≤ event_limit) × (n ≤ behaviour_limit) × RowsInside d.now e n }
     ensures { RowsAre d.now e n rows.new }
 {
-    let mut i = 0;
-    while i < n {
+    for i in 0..n {
         rows[i] = row_of(d, i, n, draft_form::entry_of(d, e, i));
-        i += 1;
     }
 }
 
 // Those of the first n behaviours that can be placed, each after its needs: none of them reaches itself.
-fn place_all(rows: &[u64], n: usize) -> u64
-    requires { (length rows.now ≡ behaviour_limit) × (n ≤ behaviour_limit) × RowsBelow rows.now n }
+fn place_all(rows: &[u64; ROW], n: usize) -> u64
+    requires { (n ≤ behaviour_limit) × RowsBelow rows.now n }
     ensures { PlacedOn rows.now n result }
 {
-    let mut order = [0u8; check_graph::ROW];
+    let mut order = [0u8; ROW];
     let arranged = check_graph::arrange(rows, 0, n, &mut order);
     arranged.set
 }
 
-// The lowest of the first n that is not in the set; n if there is none.
-fn first_left(placed: u64, n: usize) -> usize
+// The lowest of the first n that is not in the set.
+fn first_left(placed: u64, n: usize) -> Option<usize>
     requires { n ≤ behaviour_limit }
-    ensures { LowestLeft placed n result }
+    ensures { FirstOf (λ i. not (bit placed i)) n result }
 {
-    let mut i = 0;
-    while i < n {
-        if !lib_bits::contains(placed, i) {
-            return i;
-        }
-        i += 1;
-    }
-    i
+    check_graph::first_of(!placed, n)
 }
 
 // Where one is not placed, each takes in what is reached from it: else none is asked for it.
-fn close_left(rows: &mut [u64], placed: u64, n: usize)
-    requires { (length rows.old ≡ behaviour_limit) × (n ≤ behaviour_limit) }
+fn close_left(rows: &mut [u64; ROW], placed: u64, n: usize)
+    requires { n ≤ behaviour_limit }
     ensures { LeftClosed rows.old placed n rows.new }
 {
-    if first_left(placed, n) < n {
+    if first_left(placed, n).is_some() {
         check_graph::close_all(rows, n);
     }
 }
 
 // The rows on event e, of which those that are not placed have what is reached from them; and who is placed.
-fn reach_all(d: &[u64], e: usize, n: usize, rows: &mut [u64]) -> u64
-    requires { (length d.now ≡ draft_length) × (length rows.old ≡ behaviour_limit) × (e ≤ event_limit) × (n ≤ behaviour_limit) × RowsInside d.now e n }
+fn reach_all(d: &Draft, e: usize, n: usize, rows: &mut [u64; ROW]) -> u64
+    requires { (e ≤ event_limit) × (n ≤ behaviour_limit) × RowsInside d.now e n }
     ensures { RoundOn d.now e n result rows.new }
 {
     fill_rows(d, e, n, rows);
@@ -148,36 +137,29 @@ fn reach_all(d: &[u64], e: usize, n: usize, rows: &mut [u64]) -> u64
 }
 
 // Whether b is reached from itself (01: a circle): who is placed is not; of another, its row tells it.
-fn reaches_itself(rows: &[u64], placed: u64, b: usize) -> bool
-    requires { (length rows.now ≡ behaviour_limit) × (b < behaviour_limit) }
+fn reaches_itself(rows: &[u64; ROW], placed: u64, b: usize) -> bool
+    requires { b < behaviour_limit }
     ensures { result ≡ left_round placed rows.now b }
 {
-    if lib_bits::contains(placed, b) {
-        return false;
-    }
-    lib_bits::contains(rows[b], b)
+    !lib_bits::contains(placed, b) && lib_bits::contains(rows[b], b)
 }
 
 // Whether, on one of ev events or on none, one of bs behaviours reaches itself: a search over events and behaviours,
 // left where one does.
-pub fn has_cycle(d: &[u64], ev: usize, bs: usize) -> bool
-    requires { (length d.now ≡ draft_length) × (ev ≤ event_limit) × (bs ≤ behaviour_limit) × AllInside d.now ev bs }
+pub fn has_cycle(d: &Draft, ev: usize, bs: usize) -> bool
+    requires { (ev ≤ event_limit) × (bs ≤ behaviour_limit) × AllInside d.now ev bs }
     ensures { result ≡ cyclic_on d.now ev bs }
 {
-    let mut rows = [0u64; check_graph::ROW];
+    let mut rows = [0u64; ROW];
     let mut found = false;
-    let mut e = 0;
-    'search: while e <= ev {
+    'search: for e in 0..=ev {
         let placed = reach_all(d, e, bs, &mut rows);
-        let mut b = 0;
-        while b < bs {
+        for b in 0..bs {
             if reaches_itself(&rows, placed, b) {
                 found = true;
                 break 'search;
             }
-            b += 1;
         }
-        e += 1;
     }
     found
 }

@@ -1,4 +1,5 @@
 pub mod Any
+pub mod First
 pub mod Closure
 pub mod OrderIs
 pub mod Passes

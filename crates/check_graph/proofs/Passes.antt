@@ -1,7 +1,7 @@
 -- A pass through k changes the rows as it changes the matrix, so that after all of them the rows are those of the
 -- closed matrix: row by row, and pass by pass.
 use Rattle.lib_base.proofs.Prelude.{ℕ, ◌≤◌, ◌<◌, ◌+◌, ◌≡◌, refl, ◌∙◌, sym, subst, Bool, ◌||◌, ◌&&◌, ◌≢◌, by_cases, List}
-use Rattle.lib_base.proofs.Prelude.{length, get_or, length-set, set, get_or-set_other, get_or-set_same, add-one, dec_lt, arith}
+use Rattle.lib_base.proofs.Prelude.{length, get_or, set, get_or-set_other, get_or-set_same, add-one, dec_lt, arith}
 use Rattle.lib_bits.specs.Bits.{bit}
 use Rattle.check_graph.specs.Matrix.{cell, close_by, closed}
 use Rattle.check_graph.specs.Sets.{bytes_of, TakenIn, PassedThrough, ClosedRows}
@@ -15,44 +15,30 @@ abbrev after : List ℕ → ℕ → ℕ → ℕ → Bool
 after rows k j b = bit (get_or rows j 0) b || (bit (get_or rows j 0) k && bit (get_or rows k 0) b)
 
 pub record Passing (rows₀ : List ℕ) (k n : ℕ) (rows : List ℕ) (i : ℕ) : Type 0 where
-  pub within : i ≤ n
-  pub long : length rows ≡ length rows₀
   pub done : (j : ℕ) → j < i → (b : ℕ) → bit (get_or rows j 0) b ≡ after rows₀ k j b
   pub left : (j : ℕ) → i ≤ j → get_or rows j 0 ≡ get_or rows₀ j 0
 
-pub passing_start : (rows : List ℕ) (k n : ℕ) → Passing rows k n rows 0
-passing_start rows k n = record { within = omega arith; long = refl; done = λ j h. absurd (omega arith); left = λ j h. refl }
-
-pub passing_turn : {rows₀ rows : List ℕ} {k n i through r : ℕ} → Passing rows₀ k n rows i → length rows₀ ≡ 64 → n ≤ 64 → i < n → through ≡ get_or rows₀ k 0
+pub passing_turn : {rows₀ rows : List ℕ} {k n i through r : ℕ} → Passing rows₀ k n rows i → length rows ≡ 64 → n ≤ 64 → i < n → through ≡ get_or rows₀ k 0
     → TakenIn (get_or rows i 0) through k r → Passing rows₀ k n (set rows i r) (i + 1)
 passing_turn {rows₀} {rows} {k} {n} {i} {through} {r} p l few h q t =
-    let long : i < length rows = omega (arith, p.long) in
+    let long : i < length rows = omega arith in
     let same : get_or (set rows i r) i 0 ≡ r = get_or-set_same rows i r 0 long in
     let other : (j : ℕ) → j ≢ i → get_or (set rows i r) j 0 ≡ get_or rows j 0 = λ j d. get_or-set_other rows i j r 0 d in
     let here : (b : ℕ) → bit r b ≡ after rows₀ k i b = λ b. rw (p.left i (omega arith), q) at (t.each b) in
     record {
-      within = omega arith;
-      long = length-set rows i r ∙ p.long;
       done = λ j c b. by_cases (dec_lt j i) (λ s. rw (other j (omega arith)) (p.done j s b))
           (λ s. let e : i ≡ j = omega arith in subst (λ (x : ℕ). bit (get_or (set rows i r) x 0) b ≡ after rows₀ k x b) e (rw same (here b)));
       left = λ j c. other j (omega arith) ∙ p.left j (omega arith);
     }
 
-pub passing_end : {rows₀ rows : List ℕ} {k n i : ℕ} → Passing rows₀ k n rows i → n ≤ i → PassedThrough rows₀ k n rows
-passing_end p h = record { row = λ i b c. p.done i (omega arith) b; long = p.long }
-
 -- ---- the first k are passed through
 
 pub record Closing (rows₀ : List ℕ) (n : ℕ) (rows : List ℕ) (k : ℕ) : Type 0 where
-  pub within : k ≤ n
-  pub long : length rows ≡ length rows₀
   pub reached : (i b : ℕ) → i < n → b < n → bit (get_or rows i 0) b ≡ cell (close_by (bytes_of rows₀) n k) i b
 
 pub closing_start : (rows : List ℕ) (n : ℕ) → n ≤ 64 → Closing rows n rows 0
 unfolding close_by
 closing_start rows n few = record {
-  within = omega arith;
-  long = refl;
   reached = λ i b h c. sym (cell_bytes_law rows i b (omega arith) (omega arith));
 }
 
@@ -62,14 +48,11 @@ closing_turn {rows₀} {rows} {rows'} {n} {k} c few h p =
     let w = close_by (bytes_of rows₀) n k in
     let size : length w ≡ 4096 = length_close_by (bytes_of rows₀) n k ∙ length_bytes rows₀ in
     record {
-      within = omega arith;
-      long = p.long ∙ c.long;
       reached = λ i b s t. p.row i b s ∙ rw (c.reached i b s t, c.reached i k s h, c.reached k b h t)
           (rw (add-one k) (sym (pass_is w k n size few h i b s t)));
     }
 
-pub closing_end : {rows₀ rows : List ℕ} {n k : ℕ} → Closing rows₀ n rows k → n ≤ k → ClosedRows rows₀ n rows
+pub closing_end : {rows₀ rows : List ℕ} {n k : ℕ} → Closing rows₀ n rows k → k ≡ n → ClosedRows rows₀ n rows
 unfolding closed
-closing_end {rows₀} {rows} {n} {k} c h =
-    let e : k ≡ n = omega (arith, c.within) in
-    record { reached = subst (λ (x : ℕ). (i b : ℕ) → i < n → b < n → bit (get_or rows i 0) b ≡ cell (close_by (bytes_of rows₀) n x) i b) e c.reached; long = c.long }
+closing_end {rows₀} {rows} {n} {k} c e =
+    record { reached = subst (λ (x : ℕ). (i b : ℕ) → i < n → b < n → bit (get_or rows i 0) b ≡ cell (close_by (bytes_of rows₀) n x) i b) e c.reached }

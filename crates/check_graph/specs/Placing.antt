@@ -1,6 +1,6 @@
 -- The lowest number first among those whose needs are met, on a dependence matrix and bytes that mark who is placed.
 -- The code has both as sets of bits (specs/Sets.antt).
-use Rattle.std.specs.Prelude.{ℕ, zero, suc, ◌+◌, ◌*◌, Bool, true, false, not, ◌≡◌, List, ◌++◌, length, get_or, set, drop, eqb, ltb}
+use Rattle.std.specs.Prelude.{ℕ, zero, suc, ◌+◌, ◌*◌, ◌<◌, Bool, true, false, not, ◌≡◌, Option, Some, None, List, ◌++◌, length, get_or, set, drop, eqb, ltb}
 use Rattle.lib_base.specs.Basics.{pick}
 use Rattle.spec_language.specs.Order.{order, up_to}
 use Rattle.check_graph.specs.Matrix.{cell}
@@ -22,6 +22,11 @@ ready_on m marks n i = pick (eqb (get_or marks i 0) 0) (met_on m marks i n) fals
 unfoldable pub find_on : List ℕ → List ℕ → ℕ → ℕ → ℕ → ℕ
 find_on m marks n zero i = i
 find_on m marks n (suc k) i = elim (ready_on m marks n i) [ true ↦ i | false ↦ find_on m marks n k (suc i) ]
+
+-- the same as the code gives it
+abbrev pub FoundOn : List ℕ → List ℕ → ℕ → Option ℕ → Type 0
+FoundOn m marks n None = find_on m marks n n 0 ≡ n
+FoundOn m marks n (Some i) = (i < n) × (find_on m marks n n 0 ≡ i)
 
 -- how many are placed, the marks, and the bytes that name them
 abbrev pub Placed : Type 0

@@ -1,6 +1,6 @@
 -- Needs as sets of numbers below 64 (crate lib_bits), a row for each: the matrix and the marks that rows and a set
 -- stand for.
-use Rattle.std.specs.Prelude.{ℕ, ◌/◌, ◌%◌, ◌≤◌, ◌<◌, Bool, false, ◌&&◌, ◌||◌, ◌≡◌, List, length, get_or, eqb}
+use Rattle.std.specs.Prelude.{ℕ, ◌/◌, ◌%◌, ◌≤◌, ◌<◌, Bool, false, ◌&&◌, ◌||◌, ◌≡◌, List, get_or, eqb}
 use Rattle.std.specs.Int.Bits.{bit_and}
 use Rattle.lib_base.specs.Basics.{pick}
 use Rattle.lib_bits.specs.Bits.{bit}
@@ -26,12 +26,10 @@ pub record TakenIn (row through k r : ℕ) : Type 0 where
 -- the same of each of the first n rows, through row k
 pub record PassedThrough (rows : List ℕ) (k n : ℕ) (after : List ℕ) : Type 0 where
   pub row : (i b : ℕ) → i < n → bit (get_or after i 0) b ≡ bit (get_or rows i 0) b || (bit (get_or rows i 0) k && bit (get_or rows k 0) b)
-  pub long : length after ≡ length rows
 
 -- each of the first n needs what is reached from it
 pub record ClosedRows (rows : List ℕ) (n : ℕ) (after : List ℕ) : Type 0 where
   pub reached : (i b : ℕ) → i < n → b < n → bit (get_or after i 0) b ≡ cell (closed (bytes_of rows) n) i b
-  pub long : length after ≡ length rows
 
 -- the first n need none but the first n
 pub record RowsBelow (rows : List ℕ) (n : ℕ) : Type 0 where

@@ -4,8 +4,10 @@
 
 #![tactic(auto)]
 
-ghost use Rattle.std.specs.Prelude.{◌≡◌, ◌+◌, ◌*◌, ◌≤◌, ◌<◌, length};
-ghost use Rattle.check_graph.specs.Placing.{find_on, placed, order_on};
+ghost use Rattle.std.specs.Prelude.{◌≡◌, ◌+◌, ◌*◌, ◌≤◌, ◌<◌};
+ghost use Rattle.lib_bits.specs.Bits.{bit};
+ghost use Rattle.check_graph.specs.First.{FirstOf};
+ghost use Rattle.check_graph.specs.Placing.{FoundOn, placed, order_on};
 ghost use Rattle.check_graph.specs.Sets.{ready_set, RowsBelow, bytes_of, marks_of, TakenIn, PassedThrough, ClosedRows};
 ghost use Rattle.spec_language.specs.Limits.{behaviour_limit};
 
@@ -19,6 +21,18 @@ pub struct Arranged {
     pub count: usize,
 }
 
+// The lowest of the first n numbers that is in the set.
+pub fn first_of(set: u64, n: usize) -> Option<usize>
+    requires { n ≤ behaviour_limit }
+    ensures { FirstOf (bit set) n result }
+{
+    let lowest = set.trailing_zeros() as usize;
+    if lowest < n {
+        return Some(lowest);
+    }
+    None
+}
+
 // Whether i is not in the set and its needs are.
 fn is_ready(needs: u64, set: u64, i: usize) -> bool
     requires { i < behaviour_limit }
@@ -30,45 +44,34 @@ fn is_ready(needs: u64, set: u64, i: usize) -> bool
     needs & set == needs
 }
 
-// The lowest of the first n that is ready; n if there is none.
-fn find_next(rows: &[u64], set: u64, n: usize) -> usize
-    requires { (length rows.now ≡ behaviour_limit) × (n ≤ behaviour_limit) × RowsBelow rows.now n }
-    ensures { result ≡ find_on (bytes_of rows.now) (marks_of set) n n 0 }
+// The lowest of the first n that is ready.
+fn find_next(rows: &[u64; ROW], set: u64, n: usize) -> Option<usize>
+    requires { (n ≤ behaviour_limit) × RowsBelow rows.now n }
+    ensures { FoundOn (bytes_of rows.now) (marks_of set) n result }
 {
-    let mut i = 0;
-    while i < n {
+    for i in 0..n {
         if is_ready(rows[i], set, i) {
-            return i;
+            return Some(i);
         }
-        i += 1;
     }
-    i
+    None
 }
 
 // Places each of the first n that is not in the set and whose needs are, the lowest number first, chosen anew after
 // each. Returns who is in the set then, and how many were placed.
-pub fn arrange(rows: &[u64], met: u64, n: usize, out: &mut [u8]) -> Arranged
-    requires { (length rows.now ≡ behaviour_limit) × (length out.old ≡ behaviour_limit) × (n ≤ behaviour_limit) × RowsBelow rows.now n }
+pub fn arrange(rows: &[u64; ROW], met: u64, n: usize, out: &mut [u8; ROW]) -> Arranged
+    requires { (n ≤ behaviour_limit) × RowsBelow rows.now n }
     ensures { placed result.count (marks_of result.set) out.new ≡ order_on (bytes_of rows.now) n n (marks_of met) 0 out.old }
 {
     let mut set = met;
-    let mut count = 0;
-    while count < n {
-        let i = find_next(rows, set, n);
-        if i >= n {
-            return Arranged {
-                set: set,
-                count: count,
-            };
-        }
+    for count in 0..n {
+        let Some(i) = find_next(rows, set, n) else {
+            return Arranged { set, count };
+        };
         out[count] = i as u8;
         set = lib_bits::insert(set, i);
-        count += 1;
     }
-    Arranged {
-        set: set,
-        count: count,
-    }
+    Arranged { set, count: n }
 }
 
 // What a row needs, and where it needs k what k needs.
@@ -83,26 +86,22 @@ fn taken_in(row: u64, through: u64, k: usize) -> u64
 }
 
 // Each of the first n takes in what k needs, if it needs k.
-fn pass(rows: &mut [u64], k: usize, n: usize)
-    requires { (length rows.old ≡ behaviour_limit) × (k < n) × (n ≤ behaviour_limit) }
+fn pass(rows: &mut [u64; ROW], k: usize, n: usize)
+    requires { (k < n) × (n ≤ behaviour_limit) }
     ensures { PassedThrough rows.old k n rows.new }
 {
     let through = rows[k];
-    let mut i = 0;
-    while i < n {
-        rows[i] = taken_in(rows[i], through, k);
-        i += 1;
+    for row in rows[..n].iter_mut() {
+        *row = taken_in(*row, through, k);
     }
 }
 
 // Each of the first n takes in what is reached from it: through each of them in turn (Warshall). Time: n * n.
-pub fn close_all(rows: &mut [u64], n: usize)
-    requires { (length rows.old ≡ behaviour_limit) × (n ≤ behaviour_limit) }
+pub fn close_all(rows: &mut [u64; ROW], n: usize)
+    requires { n ≤ behaviour_limit }
     ensures { ClosedRows rows.old n rows.new }
 {
-    let mut k = 0;
-    while k < n {
+    for k in 0..n {
         pass(rows, k, n);
-        k += 1;
     }
 }

@@ -119,7 +119,7 @@ module _ (d : List ℕ) (v : ℕ) (dl : length d ≡ draft_length) where
 
 -- ---- chains: the matrix in bytes and the rows agree after each pass
 
-cells_closed : (m : List ℕ) (n : ℕ) → length m ≡ 4096 → n ≤ 64 → (k i j : ℕ) → i < n → j < n → k ≤ n → cell (close_by m n k) i j ≡ closed_by k (λ x y. cell m x y) i j
+pub cells_closed : (m : List ℕ) (n : ℕ) → length m ≡ 4096 → n ≤ 64 → (k i j : ℕ) → i < n → j < n → k ≤ n → cell (close_by m n k) i j ≡ closed_by k (λ x y. cell m x y) i j
 unfolding close_by closed_by
 cells_closed m n l few zero i j a b h = refl
 cells_closed m n l few (suc k) i j a b h =

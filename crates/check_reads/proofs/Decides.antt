@@ -1,7 +1,7 @@
 -- The tests decide 01's definition: what the handlers of an event name, directly or through passives, is `Named`. Under
 -- no event the closed matrix decides what is reached by a chain, and a chain leads through passives.
 use Rattle.lib_base.proofs.Prelude.{ℕ, ◌≤◌, ◌<◌, ◌≡◌, refl, ◌∙◌, sym, ap, true, Bool, ◌||◌, false≢true, ◌&&◌}
-use Rattle.lib_base.proofs.Prelude.{and-eq-true_iff, or-true, by_cases, ◌⊎◌, ⊎_elim, List, [], ◌∷◌}
+use Rattle.lib_base.proofs.Prelude.{and-eq-true_iff, or-true, by_cases, ⊎_elim, List, [], ◌∷◌}
 use Rattle.lib_base.proofs.Prelude.{List·getD-eq-default, dec_lt, ne_eqb, arith}
 use Rattle.lib_base.specs.Basics.{All}
 use Rattle.lib_base.proofs.Tools.{or_either, all_at_or}

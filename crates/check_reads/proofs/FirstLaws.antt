@@ -1,6 +1,7 @@
 -- What `first_from` says: the first answer that is not 0, and 0 exactly if all are; and the loop that seeks it.
-use Rattle.lib_base.proofs.Prelude.{ℕ, ◌≤◌, ◌<◌, ◌+◌, ◌-◌, suc, zero, ◌≡◌, refl, ◌∙◌, sym, ap, ◌≢◌, by_cases, eqb}
+use Rattle.lib_base.proofs.Prelude.{ℕ, ◌≤◌, ◌<◌, ◌+◌, ◌-◌, suc, zero, Bool, true, false, ◌≡◌, refl, ◌∙◌, sym, ap, ◌≢◌, by_cases, eqb}
 use Rattle.lib_base.proofs.Prelude.{add-one, dec_lt, ne_eqb, eqb-true, eq-eqb, eqb-false, arith}
+use Rattle.lib_base.specs.Basics.{pick}
 use Rattle.lib_base.proofs.Tools.{split}
 use Rattle.check_reads.specs.First.{first_from}
 
@@ -68,22 +69,41 @@ first_all (suc k) i f e j a b =
     (λ s. let q : i ≡ j = omega arith in rw q at (eqb-true (f i) 0 t)))
     (λ t. absurd (eqb-false (f i) 0 t (sym (first_stops k i f (eqb-false (f i) 0 t)) ∙ e)))
 
+-- ---- where a set gives the answers
+
+-- all before p are 0, and that for p is not
+first_at : (k i p : ℕ) (f : ℕ → ℕ) → i ≤ p → p < i + k → ((j : ℕ) → i ≤ j → j < p → f j ≡ 0) → f p ≢ 0 → first_from k i f ≡ f p
+first_at zero i p f a b h n = absurd (omega arith)
+first_at (suc k) i p f a b h n =
+    by_cases (dec_lt i p)
+    (λ s. first_skips k i f (h i (omega arith) s) ∙ first_at k (suc i) p f s (omega arith) (λ j c d. h j (omega arith) d) n)
+    (λ s. let q : p ≡ i = omega arith in rw q (first_stops k i f (rw q at n)))
+
+-- of the set that f tells, the first gives the answer, where g gives none that is 0
+module _ (n : ℕ) (f : ℕ → Bool) (g : ℕ → ℕ) where
+  abbrev given : ℕ → ℕ
+  given j = pick (f j) (g j) 0
+
+  pub none_given : ((j : ℕ) → j < n → f j ≡ false) → 0 ≡ first_from n 0 given
+  none_given w = sym (first_none n 0 given (λ j a b. rw (w j (omega arith))))
+
+  pub first_given : (i : ℕ) → i < n → f i ≡ true → ((j : ℕ) → j < i → f j ≡ false) → g i ≢ 0 → g i ≡ first_from n 0 given
+  first_given i h t w s =
+      let here : given i ≡ g i = rw t in
+      sym (first_at n 0 i given (omega arith) (omega arith) (λ j a b. rw (w j b)) (λ z. s (sym here ∙ z)) ∙ here)
+
 -- ---- the loop: what is left decides the whole
 
 pub record Seeking (f : ℕ → ℕ) (a n i : ℕ) : Type 0 where
   pub whole : first_from (n - i) i f ≡ first_from (n - a) a f
-  pub within : i ≤ n
 
-pub seek : (f : ℕ → ℕ) (a n : ℕ) → a ≤ n → Seeking f a n a
-seek f a n h = record { whole = refl; within = h }
+pub seek : (f : ℕ → ℕ) (a n : ℕ) → Seeking f a n a
+seek f a n = record { whole = refl }
 
 pub seek_on : {f : ℕ → ℕ} {a n i : ℕ} → Seeking f a n i → i < n → f i ≡ 0 → Seeking f a n (i + 1)
 seek_on {f} {a} {n} {i} t h e =
     let s : n - i ≡ suc (n - (i + 1)) = omega arith in
-    record {
-      whole = ap (λ (k : ℕ). first_from (n - (i + 1)) k f) (add-one i) ∙ sym (first_skips (n - (i + 1)) i f e) ∙ (rw s at t.whole);
-      within = omega arith;
-    }
+    record { whole = ap (λ (k : ℕ). first_from (n - (i + 1)) k f) (add-one i) ∙ sym (first_skips (n - (i + 1)) i f e) ∙ (rw s at t.whole) }
 
 pub seek_stop : {f : ℕ → ℕ} {a n i : ℕ} → Seeking f a n i → i < n → f i ≢ 0 → f i ≡ first_from (n - a) a f
 seek_stop {f} {a} {n} {i} t h e =

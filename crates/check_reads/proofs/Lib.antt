@@ -2,8 +2,8 @@ pub mod Gathering
 pub mod NameLaws
 pub mod Filling
 pub mod Named
-pub mod Passing
 pub mod Agrees
 pub mod Decides
+pub mod Chains
 pub mod FirstLaws
 pub mod Examples

@@ -1,6 +1,6 @@
 -- The names in a draft's entries and the sets that an event writes and names, in the code's tests and order.
-use Rattle.std.specs.Prelude.{ℕ, zero, suc, ◌+◌, ◌<◌, Bool, ◌&&◌, ◌||◌, List, ◌≡◌, get_or, eqb, leb}
-use Rattle.lib_bits.specs.Bits.{bit, Gathers}
+use Rattle.std.specs.Prelude.{ℕ, zero, suc, ◌+◌, ◌<◌, Bool, ◌&&◌, ◌||◌, List, get_or, eqb, leb}
+use Rattle.lib_bits.specs.Bits.{Gathers}
 use Rattle.draft_form.specs.Draft.{entry_of, used_by}
 use Rattle.draft_form.specs.Entry.{entry_kind, entry_start, entry_count, node_tag, node_word}
 use Rattle.check_graph.specs.Any.{any_below}
@@ -41,11 +41,6 @@ named_on d ev n e j = handlers_name d e n j || any_below n (λ i. handlers_name 
 -- row i of the buffer is the set of what i depends on, among n
 abbrev pub RowsBy : (ℕ → ℕ → Bool) → ℕ → List ℕ → Type 0
 RowsBy dep n rows = (i : ℕ) → i < n → Gathers n (get_or rows i 0) (dep i)
-
--- of n rows, each that has k takes in row k
-abbrev pub Passed : List ℕ → List ℕ → ℕ → ℕ → Type 0
-Passed rows rows' k n =
-    (i : ℕ) → i < n → (j : ℕ) → bit (get_or rows' i 0) j ≡ bit (get_or rows i 0) j || (bit (get_or rows i 0) k && bit (get_or rows k 0) j)
 
 -- for each of ev events, the set that it writes
 abbrev pub WritesIn : List ℕ → ℕ → ℕ → List ℕ → Type 0

@@ -4,18 +4,22 @@
 
 #![tactic(auto)]
 
-ghost use Rattle.std.specs.Prelude.{◌≡◌, Bool, ◌&&◌, ◌||◌, ℕ, ◌+◌, ◌≤◌, ◌<◌, length, get_or, eqb, leb};
+ghost use Rattle.std.specs.Prelude.{◌≡◌, Bool, ◌&&◌, ◌||◌, ℕ, ◌+◌, ◌≤◌, ◌<◌, get_or, eqb, leb};
 ghost use Rattle.lib_bits.specs.Bits.{bit, Gathers};
-ghost use Rattle.draft_form.specs.Draft.{draft_length, used_by};
+ghost use Rattle.draft_form.specs.Draft.{used_by};
 ghost use Rattle.draft_form.specs.Entry.{entry_kind, entry_start, entry_count};
 ghost use Rattle.check_graph.specs.Any.{any_below};
 ghost use Rattle.check_faults.specs.Checks.{RowsInside, AllInside};
-ghost use Rattle.check_reads.specs.Sets.{is_name, named_among, writes_on, handlers_name, passive_on, closed_by, RowsBy, Passed, WritesIn, NamedIn};
+ghost use Rattle.check_reads.specs.Sets.{is_name, named_among, writes_on, handlers_name, passive_on, closed_by, RowsBy, WritesIn, NamedIn};
 ghost use Rattle.draft_form.specs.Sizes.{draft_nodes};
 ghost use Rattle.spec_language.specs.Limits.{behaviour_limit, event_limit};
 
-use draft_form::layout;
+use check_graph::ROW;
+use draft_form::{Draft, layout};
 use spec_language::limits;
+
+// A set of behaviours for each event.
+pub type Sets = [u64; limits::EVENTS];
 
 // The set with the name that node x is.
 fn add_name(set: u64, x: u64) -> u64
@@ -31,17 +35,15 @@ fn add_name(set: u64, x: u64) -> u64
 }
 
 // The names in entry v of behaviour i, as i means them.
-pub fn names_in(d: &[u64], i: usize, v: u64) -> u64
-    requires { (length d.now ≡ draft_length) × (i < behaviour_limit) × (entry_start v + entry_count v ≤ draft_nodes) }
+pub fn names_in(d: &Draft, i: usize, v: u64) -> u64
+    requires { (i < behaviour_limit) × (entry_start v + entry_count v ≤ draft_nodes) }
     ensures { Gathers behaviour_limit result (λ j. named_among (used_by d.now i) j (entry_start v) (entry_count v)) }
 {
     let start = (v / layout::KINDS % layout::FIRSTS) as usize;
     let count = (v / layout::COUNTS) as usize;
     let mut set = 0;
-    let mut k = 0;
-    while k < count {
-        set = add_name(set, draft_form::moved_node(d, i, d[start + k]));
-        k += 1;
+    for node in &d[start..start + count] {
+        set = add_name(set, draft_form::moved_node(d, i, *node));
     }
     set
 }
@@ -58,22 +60,20 @@ fn add_writer(set: u64, i: usize, v: u64) -> u64
 }
 
 // Which of the first n behaviours have a handler for event e.
-fn writes_of(d: &[u64], e: usize, n: usize) -> u64
-    requires { (length d.now ≡ draft_length) × (n ≤ behaviour_limit) }
+fn writes_of(d: &Draft, e: usize, n: usize) -> u64
+    requires { n ≤ behaviour_limit }
     ensures { Gathers n result (writes_on d.now e) }
 {
     let mut set = 0;
-    let mut i = 0;
-    while i < n {
+    for i in 0..n {
         set = add_writer(set, i, draft_form::entry_of(d, e, i));
-        i += 1;
     }
     set
 }
 
 // The set with the names in entry v of behaviour i where it is a handler.
-fn add_names(d: &[u64], set: u64, i: usize, v: u64) -> u64
-    requires { (length d.now ≡ draft_length) × (i < behaviour_limit) × (entry_start v + entry_count v ≤ draft_nodes) }
+fn add_names(d: &Draft, set: u64, i: usize, v: u64) -> u64
+    requires { (i < behaviour_limit) × (entry_start v + entry_count v ≤ draft_nodes) }
     ensures { Gathers behaviour_limit result (λ j. bit set j
         || (leb 2 (entry_kind v) && named_among (used_by d.now i) j (entry_start v) (entry_count v))) }
 {
@@ -84,22 +84,20 @@ fn add_names(d: &[u64], set: u64, i: usize, v: u64) -> u64
 }
 
 // The names in the handlers of the first n behaviours for event e.
-fn handler_names(d: &[u64], e: usize, n: usize) -> u64
-    requires { (length d.now ≡ draft_length) × (e ≤ event_limit) × (n ≤ behaviour_limit) × RowsInside d.now e n }
+fn handler_names(d: &Draft, e: usize, n: usize) -> u64
+    requires { (e ≤ event_limit) × (n ≤ behaviour_limit) × RowsInside d.now e n }
     ensures { Gathers behaviour_limit result (handlers_name d.now e n) }
 {
     let mut set = 0;
-    let mut i = 0;
-    while i < n {
+    for i in 0..n {
         set = add_names(d, set, i, draft_form::entry_of(d, e, i));
-        i += 1;
     }
     set
 }
 
 // The names in entry v of behaviour i where it is a passive's.
-fn passive_names(d: &[u64], i: usize, v: u64) -> u64
-    requires { (length d.now ≡ draft_length) × (i < behaviour_limit) × (entry_start v + entry_count v ≤ draft_nodes) }
+fn passive_names(d: &Draft, i: usize, v: u64) -> u64
+    requires { (i < behaviour_limit) × (entry_start v + entry_count v ≤ draft_nodes) }
     ensures { Gathers behaviour_limit result (λ j. eqb (entry_kind v) 1 && named_among (used_by d.now i) j (entry_start v) (entry_count v)) }
 {
     if v % layout::KINDS == layout::PASSIVE {
@@ -109,14 +107,12 @@ fn passive_names(d: &[u64], i: usize, v: u64) -> u64
 }
 
 // What each of n behaviours names as a passive: ev is the number of no event.
-fn fill_passives(d: &[u64], ev: usize, n: usize, rows: &mut [u64])
-    requires { (length d.now ≡ draft_length) × (length rows.old ≡ behaviour_limit) × (ev ≤ event_limit) × (n ≤ behaviour_limit) × RowsInside d.now ev n }
+fn fill_passives(d: &Draft, ev: usize, n: usize, rows: &mut [u64; ROW])
+    requires { (ev ≤ event_limit) × (n ≤ behaviour_limit) × RowsInside d.now ev n }
     ensures { RowsBy (passive_on d.now ev) n rows.new }
 {
-    let mut i = 0;
-    while i < n {
+    for i in 0..n {
         rows[i] = passive_names(d, i, draft_form::entry_of(d, ev, i));
-        i += 1;
     }
 }
 
@@ -131,33 +127,17 @@ fn add_row(set: u64, names: u64, i: usize, row: u64) -> u64
     set
 }
 
-// Each row that has k takes in row k.
-fn pass_through(rows: &mut [u64], k: usize, n: usize)
-    requires { (length rows.old ≡ behaviour_limit) × (k < n) × (n ≤ behaviour_limit) }
-    ensures { Passed rows.old rows.new k n }
-{
-    let mut i = 0;
-    while i < n {
-        rows[i] = add_row(rows[i], rows[i], k, rows[k]);
-        i += 1;
-    }
-}
-
 // The rows with whatever is reached by a chain, in place.
-pub fn close_rows(rows: &mut [u64], n: usize)
-    requires { (length rows.old ≡ behaviour_limit) × (n ≤ behaviour_limit) }
+pub fn close_rows(rows: &mut [u64; ROW], n: usize)
+    requires { n ≤ behaviour_limit }
     ensures { (dep : ℕ → ℕ → Bool) → RowsBy dep n rows.old → RowsBy (closed_by n dep) n rows.new }
 {
-    let mut k = 0;
-    while k < n {
-        pass_through(rows, k, n);
-        k += 1;
-    }
+    check_graph::close_all(rows, n);
 }
 
 // What each of n behaviours names through passives.
-pub fn passive_rows(d: &[u64], ev: usize, n: usize, rows: &mut [u64])
-    requires { (length d.now ≡ draft_length) × (length rows.old ≡ behaviour_limit) × (ev ≤ event_limit) × (n ≤ behaviour_limit) × RowsInside d.now ev n }
+pub fn passive_rows(d: &Draft, ev: usize, n: usize, rows: &mut [u64; ROW])
+    requires { (ev ≤ event_limit) × (n ≤ behaviour_limit) × RowsInside d.now ev n }
     ensures { RowsBy (closed_by n (passive_on d.now ev)) n rows.new }
 {
     fill_passives(d, ev, n, rows);
@@ -165,50 +145,44 @@ pub fn passive_rows(d: &[u64], ev: usize, n: usize, rows: &mut [u64])
 }
 
 // The names, and whatever they lead to.
-pub fn add_rows(rows: &[u64], names: u64, n: usize) -> u64
-    requires { (length rows.now ≡ behaviour_limit) × (n ≤ behaviour_limit) }
+pub fn add_rows(rows: &[u64; ROW], names: u64, n: usize) -> u64
+    requires { n ≤ behaviour_limit }
     ensures { Gathers behaviour_limit result (λ j. bit names j || any_below n (λ i. bit names i && bit (get_or rows.now i 0) j)) }
 {
     let mut set = names;
-    let mut i = 0;
-    while i < n {
+    for i in 0..n {
         set = add_row(set, names, i, rows[i]);
-        i += 1;
     }
     set
 }
 
 // Which of the first n behaviours each of ev events writes.
-pub fn fill_writes(d: &[u64], ev: usize, n: usize, writes: &mut [u64])
-    requires { (length d.now ≡ draft_length) × (length writes.old ≡ event_limit) × (ev ≤ event_limit) × (n ≤ behaviour_limit) }
+pub fn fill_writes(d: &Draft, ev: usize, n: usize, writes: &mut Sets)
+    requires { (ev ≤ event_limit) × (n ≤ behaviour_limit) }
     ensures { WritesIn d.now ev n writes.new }
 {
-    let mut e = 0;
-    while e < ev {
+    for e in 0..ev {
         writes[e] = writes_of(d, e, n);
-        e += 1;
     }
 }
 
 // Which its handlers name, where the rows say what is named through passives.
-fn fill_names(d: &[u64], ev: usize, n: usize, rows: &[u64], named: &mut [u64])
-    requires { (length d.now ≡ draft_length) × (length rows.now ≡ behaviour_limit) × (length named.old ≡ event_limit) × (ev ≤ event_limit)
+fn fill_names(d: &Draft, ev: usize, n: usize, rows: &[u64; ROW], named: &mut Sets)
+    requires { (ev ≤ event_limit)
         × (n ≤ behaviour_limit) × AllInside d.now ev n × RowsBy (closed_by n (passive_on d.now ev)) n rows.now }
     ensures { NamedIn d.now ev n named.new }
 {
-    let mut e = 0;
-    while e < ev {
+    for e in 0..ev {
         named[e] = add_rows(rows, handler_names(d, e, n), n);
-        e += 1;
     }
 }
 
 // Which of the first n behaviours the handlers of each of ev events name, directly or through passives.
-pub fn fill_named(d: &[u64], ev: usize, n: usize, named: &mut [u64])
-    requires { (length d.now ≡ draft_length) × (length named.old ≡ event_limit) × (ev ≤ event_limit) × (n ≤ behaviour_limit) × AllInside d.now ev n }
+pub fn fill_named(d: &Draft, ev: usize, n: usize, named: &mut Sets)
+    requires { (ev ≤ event_limit) × (n ≤ behaviour_limit) × AllInside d.now ev n }
     ensures { NamedIn d.now ev n named.new }
 {
-    let mut rows = [0u64; limits::BEHAVIOURS];
+    let mut rows = [0u64; ROW];
     passive_rows(d, ev, n, &mut rows);
     fill_names(d, ev, n, &rows, named);
 }

@@ -3,9 +3,8 @@
 use Rattle.lib_base.proofs.Prelude.{ℕ, ◌≤◌, ◌<◌, ◌+◌, ◌-◌, suc, zero, ◌*◌, ◌%◌, ◌/◌, ◌≡◌, refl, ◌∙◌, true, false}
 use Rattle.lib_base.proofs.Prelude.{by_cases, ◌⊎◌, ⊎_elim, inr, inl, List, [], ◌∷◌, ◌++◌, length, take, drop}
 use Rattle.lib_base.proofs.Prelude.{take-append_seam, ltb, add-one, dec_lt, ne_eqb}
-use Rattle.lib_base.proofs.Prelude.{le-ltb, lt-ltb, ltb-true, leb-true, arith}
+use Rattle.lib_base.proofs.Prelude.{le-ltb, lt-ltb, leb-true, arith}
 use Prim.Native.Nat.{min}
-use Rattle.lib_base.proofs.Tools.{by_test}
 use Rattle.check_graph.specs.Matrix.{cell, cell_below}
 use Rattle.check_graph.proofs.Any.{any_member}
 use Rattle.check_faults.specs.Checks.{matrix_on, closed_on, cyclic_on}
@@ -192,48 +191,13 @@ pub back_as : (d : List ℕ) (e n i : ℕ) {m s : List ℕ} {r : ℕ} → Alike 
 unfolding back_on
 back_as d e n i {m} q b w = w.steps ∙ back_same n (λ x y. cell m x y) (λ x y. cell (matrix_on d e n) x y) q i b
 
-pub back_fits : (d : List ℕ) (e n i : ℕ) {m s : List ℕ} {r : ℕ} → Alike m d e n → i < n → Back m n i r s → r ≤ n + 1
-back_fits d e n i q b w = omega (arith, back_as d e n i q b w, back_most d e n i)
-
--- the first i behaviours are tried on event e
-pub record Trying (d : List ℕ) (e t n b : ℕ) (s : List ℕ) (least i : ℕ) : Type 0 where
-  pub whole : least ≡ best_of d e t n i b
-  pub within : i ≤ n
-  pub long : length s ≡ 65
-
-pub trying_start : (d : List ℕ) (e t n b : ℕ) (s : List ℕ) → length s ≡ 65 → Trying d e t n b s b 0
+pub trying_turn : (d : List ℕ) (e t n b i : ℕ) {least r v : ℕ} → least ≡ best_of d e t n i b → r ≡ back_on d e n i → v ≡ min least ((r * 64 + t) * 64 + i) → v ≡ best_of d e t n (i + 1) b
 unfolding best_of
-trying_start d e t n b s l = record { whole = refl; within = omega arith; long = l }
+trying_turn d e t n b i w q p = rw (add-one i) (p ∙ rw (q, w))
 
-pub trying_turn : {d : List ℕ} {e t n b : ℕ} {s : List ℕ} {least i : ℕ} {s' : List ℕ} {r v : ℕ} → Trying d e t n b s least i → i < n → r ≡ back_on d e n i
-    → v ≡ min least ((r * 64 + t) * 64 + i) → length s' ≡ length s → Trying d e t n b s' v (i + 1)
-unfolding best_of
-trying_turn {d} {e} {t} {n} {b} {s} {least} {i} {s'} {r} {v} w h q p l =
-    record { whole = rw (add-one i) (p ∙ rw (q, w.whole)); within = omega arith; long = l ∙ w.long }
-
-pub trying_end : {d : List ℕ} {e t n b : ℕ} {s : List ℕ} {least i : ℕ} → Trying d e t n b s least i → n ≤ i → least ≡ best_of d e t n n b
-trying_end {n = n} {i = i} w h = let z : i ≡ n = omega (arith, w.within) in rw z at w.whole
-
--- the first t turns are
-pub record Passing (d : List ℕ) (ev n : ℕ) (m s : List ℕ) (least t : ℕ) : Type 0 where
-  pub whole : least ≡ best_all d ev n t 300000
-  pub within : t ≤ ev + 1
-  pub wide : length m ≡ 64
-  pub long : length s ≡ 65
-
-pub passing_start : (d : List ℕ) (ev n : ℕ) {m s : List ℕ} → length m ≡ 64 → length s ≡ 65 → Passing d ev n m s 300000 0
+pub passing_turn : (d : List ℕ) (ev n t : ℕ) {least e v : ℕ} → least ≡ best_all d ev n t 300000 → e ≡ event_of_turn ev t → v ≡ best_of d e t n n least → v ≡ best_all d ev n (t + 1) 300000
 unfolding best_all
-passing_start d ev n l k = record { whole = refl; within = omega arith; wide = l; long = k }
-
-pub passing_turn : {d : List ℕ} {ev n : ℕ} {m s : List ℕ} {least t : ℕ} {m' s' : List ℕ} {e v : ℕ} → Passing d ev n m s least t → t ≤ ev → e ≡ event_of_turn ev t
-    → v ≡ best_of d e t n n least → length m' ≡ length m → length s' ≡ length s → Passing d ev n m' s' v (t + 1)
-unfolding best_all
-passing_turn {d} {ev} {n} {m} {s} {least} {t} p h z q l k =
-    record { whole = rw (add-one t) (q ∙ rw (z, p.whole)); within = omega arith; wide = l ∙ p.wide; long = k ∙ p.long }
-
-pub passing_end : {d : List ℕ} {ev n : ℕ} {m s : List ℕ} {least t : ℕ} → Passing d ev n m s least t → ev < t → least ≡ shortest_on d ev n
-unfolding shortest_on
-passing_end {ev = ev} {t = t} p h = let z : t ≡ ev + 1 = omega (arith, p.within) in rw z at p.whole
+passing_turn d ev n t p z q = rw (add-one t) (q ∙ rw (z, p))
 
 -- the event of a turn is declared, or none
 pub turn_event : (ev t : ℕ) {e : ℕ} → t ≤ ev → e ≡ event_of_turn ev t → e ≤ ev
@@ -260,10 +224,6 @@ taken_of r l o rest q c = rw (q, ← c) (take-append_seam o (drop (length o) res
 
 -- ---- what is found
 
-pub number_small : (e ev x : ℕ) → x ≡ event_number e ev → ev ≤ 32 → x ≤ 255
-unfolding event_number
-number_small e ev x q h = rw q (by_test (λ y. y ≤ 255) (ltb e ev) (λ t. omega (arith, ltb-true e ev t)) (λ t. omega arith))
-
 pub best_as : (d : List ℕ) (ev n : ℕ) → n ≤ 64 → ev ≤ 32 → Wide d ev n → cyclic_on d ev n ≡ true → {b : ℕ} → b ≡ shortest_on d ev n → Best d ev n b
 best_as d ev n few events long h q = rw q (best_found d ev n few events long h)
 
@@ -276,9 +236,6 @@ module _ (d : List ℕ) (ev n : ℕ) {b : ℕ} (w : Best d ev n b) {e : ℕ} (q 
 
 module _ (d : List ℕ) (ev n : ℕ) (few : n ≤ 64) (events : ev ≤ 32) (long : Wide d ev n) {b : ℕ} (w : Best d ev n b) {e : ℕ} (q : e ≡ event_of_turn ev (b / 64 % 64))
     {r : ℕ} {scratch listed : List ℕ} (k : CircleMembers d e n (b % 64) r scratch listed) where
-  pub count_few : r ≤ n
-  count_few = omega (arith, k.steps, back_here d ev n w q)
-
   abbrev ms : List ℕ
   ms = k.walked.members
 

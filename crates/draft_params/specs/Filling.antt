@@ -18,6 +18,10 @@ unfoldable pub fill_to : List ℕ → List ℕ → ℕ → List ℕ
 fill_to ps d zero = d
 fill_to ps d (suc k) = set (fill_to ps d k) k (filled_node ps (get_or (fill_to ps d k) k 0))
 
+-- a node of a parameter
+abbrev pub is_param : ℕ → Bool
+is_param x = eqb (node_tag x) 19
+
 -- a parameter is among the first n nodes
 unfoldable pub any_param : List ℕ → ℕ → Bool
 any_param d zero = false

@@ -3,18 +3,19 @@
 
 #![tactic(auto)]
 
-ghost use Rattle.std.specs.Prelude.{◌≡◌, ◌<◌, ◌≤◌, ◌^◌, length};
-ghost use Rattle.draft_form.specs.Draft.{draft_length};
-ghost use Rattle.draft_params.specs.Filling.{parameter_value, filled_node, fill_to, any_param, lacks_param};
+ghost use Rattle.std.specs.Prelude.{◌≡◌, ◌<◌, ◌≤◌, ◌^◌};
+ghost use Rattle.std.specs.List.{list_any};
+ghost use Rattle.draft_params.specs.Filling.{parameter_value, filled_node, fill_to, is_param, lacks_param};
 ghost use Rattle.draft_form.specs.Sizes.{draft_nodes};
 ghost use Rattle.spec_language.specs.Limits.{parameter_limit};
 
-use draft_form::layout;
+use draft_form::{Draft, layout};
 use spec_language::limits;
 
 const PARAMETERS: u64 = limits::PARAMETERS as u64;
 
 // The value of parameter k: a word of the bytes lent, 0 where fewer than 32 are.
+#[tactic(auto, unfolding(crate::specs::Filling::parameter_value))]
 fn parameter_value(params: &[u8], k: usize) -> u64
     requires { k < parameter_limit }
     ensures value { result ≡ parameter_value params.now k }
@@ -27,6 +28,7 @@ fn parameter_value(params: &[u8], k: usize) -> u64
 }
 
 // The node that stands for it where the parameters are known.
+#[tactic(auto, unfolding(crate::specs::Filling::filled_node))]
 fn fill_node(params: &[u8], node: u64) -> u64
     ensures { result ≡ filled_node params.now node }
 {
@@ -37,39 +39,31 @@ fn fill_node(params: &[u8], node: u64) -> u64
 }
 
 // Fills in the first `nodes` nodes of a draft.
-pub fn fill_draft(draft: &mut [u64], nodes: usize, params: &[u8])
-    requires { (length draft.old ≡ draft_length) × (nodes ≤ draft_nodes) }
+#[tactic(auto, using(crate::proofs::Steps::fill_to_more), unfolding(crate::specs::Filling::fill_to))]
+pub fn fill_draft(draft: &mut Draft, nodes: usize, params: &[u8])
+    requires { nodes ≤ draft_nodes }
     ensures { draft.new ≡ fill_to params.now draft.old nodes }
 {
-    let mut k = 0;
-    while k < nodes {
-        draft[k] = fill_node(params, draft[k]);
-        k += 1;
+    for node in draft[..nodes].iter_mut() {
+        *node = fill_node(params, *node);
     }
 }
 
-// Whether a parameter is among the first `nodes` nodes.
-fn has_param(draft: &[u64], nodes: usize) -> bool
-    requires { (length draft.now ≡ draft_length) × (nodes ≤ draft_nodes) }
-    ensures { result ≡ any_param draft.now nodes }
+// Whether a parameter is among these.
+fn has_param(nodes: &[u64]) -> bool
+    ensures { result ≡ list_any is_param nodes.now }
 {
-    let mut k = nodes;
-    while k > 0 {
-        k -= 1;
-        if draft[k] / layout::WORD == layout::PARAMETER {
-            return true;
-        }
-    }
-    false
+    nodes.iter().any(|x| *x / layout::WORD == layout::PARAMETER)
 }
 
 // Whether a parameter is among the first `nodes` nodes and fewer than 32 bytes are lent.
-pub fn lacks_param(draft: &[u64], nodes: usize, params: &[u8]) -> bool
-    requires { (length draft.now ≡ draft_length) × (nodes ≤ draft_nodes) }
+#[tactic(auto, unfolding(crate::specs::Filling::lacks_param), using(crate::proofs::Steps::any_is))]
+pub fn lacks_param(draft: &Draft, nodes: usize, params: &[u8]) -> bool
+    requires { nodes ≤ draft_nodes }
     ensures { result ≡ lacks_param draft.now nodes params.now }
 {
     if params.len() < limits::PARAMETER_BYTES {
-        return has_param(draft, nodes);
+        return has_param(&draft[..nodes]);
     }
     false
 }

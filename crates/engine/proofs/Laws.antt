@@ -1,6 +1,6 @@
 -- What one recorded call is, by its kind, and what the loops over the calls keep: what is left gives the whole. Assumes
 -- nothing.
-use Rattle.lib_base.proofs.Prelude.{ℕ, ◌≤◌, ◌<◌, ◌+◌, ◌-◌, suc, ◌*◌, ◌≡◌, refl, ◌∙◌, sym, ap, Bool, ◌≢◌, List, length}
+use Rattle.lib_base.proofs.Prelude.{ℕ, ◌≤◌, ◌<◌, ◌+◌, ◌-◌, suc, ◌*◌, ◌≡◌, ◌∙◌, sym, ap, Bool, ◌≢◌, List, length}
 use Rattle.lib_base.proofs.Prelude.{get_or, ne_eqb, eq-eqb, arith}
 use Rattle.lib_word.specs.Word.{get_at}
 use Rattle.spec_model.specs.Model.{Call}
@@ -18,18 +18,15 @@ pub call_arrive : (t l : List ℕ) (kind n who : ℕ) → kind ≡ 0 → arrive_
 unfolding call_on call_of
 call_arrive t l kind n who e = rw (eq-eqb kind 0 e)
 
-pub call_step : (t l : List ℕ) (kind n who : ℕ) → kind ≢ 0 → kind ≡ 1 → step_on t l ≡ call_on t (call_of kind n who) l
+pub call_step : (t l : List ℕ) (kind n who : ℕ) → kind ≡ 1 → step_on t l ≡ call_on t (call_of kind n who) l
 unfolding call_on call_of
-call_step t l kind n who d e = rw (ne_eqb kind 0 d, eq-eqb kind 1 e)
+call_step t l kind n who e = rw (ne_eqb kind 0 (λ z. absurd (omega arith)), eq-eqb kind 1 e)
 
 pub call_board : (t l : List ℕ) (kind n who r : ℕ) → kind ≢ 0 → kind ≢ 1 → r ≡ board_on t l n who → call_result r l ≡ call_on t (call_of kind n who) l
 unfolding call_on call_of
 call_board t l kind n who r d f e = rw (ne_eqb kind 0 d, ne_eqb kind 1 f) (ap (λ (x : ℕ). call_result x l) e)
 
 -- ---- calls made one after the other
-
-pub none_made : (t calls l a : List ℕ) {n i : ℕ} → i ≤ n → RowOfSteps t calls n i l a i l a
-none_made t calls l a h = record { rounds = refl; answers = refl; onward = omega arith; within = h; as_long = refl; round_long = refl }
 
 pub and_then : {t calls : List ℕ} {n i : ℕ} {l a : List ℕ} {j : ℕ} {l' a' : List ℕ} {k : ℕ} {m b : List ℕ} → RowOfSteps t calls n i l a j l' a' → RowOfSteps t calls n j l' a' k m b
     → RowOfSteps t calls n i l a k m b
@@ -62,7 +59,7 @@ one_call t calls l a {n} {i} {r} {l'} {a'} h e f w x =
 pub one_step : (t calls l a : List ℕ) {n i : ℕ} {r : ℕ} {l' a' : List ℕ} → i < n → get_or calls (i * 6) 0 ≡ 1 → call_result r l' ≡ step_on t l → a' ≡ put_answer a i r
     → length a' ≡ length a → length l' ≡ length l → RowOfSteps t calls n i l a (i + 1) l' a'
 one_step t calls l a {n} {i} h k e f w x =
-    one_call t calls l a h (e ∙ call_step t l (get_or calls (i * 6) 0) (get_at calls (i * 6 + 1)) (get_or calls (i * 6 + 5) 0) (λ z. absurd (omega arith)) k) f w x
+    one_call t calls l a h (e ∙ call_step t l (get_or calls (i * 6) 0) (get_at calls (i * 6 + 1)) (get_or calls (i * 6 + 5) 0) k) f w x
 
 -- all are made
 module _ {t calls : List ℕ} {n : ℕ} {l₀ a₀ : List ℕ} {i : ℕ} {l a : List ℕ} (k : RowOfSteps t calls n 0 l₀ a₀ i l a) where
@@ -86,9 +83,6 @@ pub record Stepping (t calls : List ℕ) (n i₀ : ℕ) (l₀ a₀ : List ℕ) (
   pub made : RowOfSteps t calls n i₀ l₀ a₀ i l a
   pub sound : RoundSound t l
   pub rank : is_outranked t l ≡ o
-
-pub first : (t calls l a : List ℕ) {n i : ℕ} {p : Bool} → i ≤ n → RoundSound t l → p ≡ is_outranked t l → Stepping t calls n i l a p i l a
-first t calls l a h s e = record { made = none_made t calls l a h; sound = s; rank = sym e }
 
 pub next_step : {t calls : List ℕ} {n i₀ : ℕ} {l₀ a₀ : List ℕ} {o : Bool} {i : ℕ} {l a : List ℕ} {p : Bool} {r : ℕ} {l' a' : List ℕ} → Stepping t calls n i₀ l₀ a₀ o i l a
     → i < n → get_or calls (i * 6) 0 ≡ 1 → call_result r l' ≡ step_on t l → RoundSound t l' × (is_outranked t l' ≡ outranked_after o r) → p ≡ outranked_after o r → a' ≡ put_answer a i r → length a' ≡ length a → length l' ≡ length l

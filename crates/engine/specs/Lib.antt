@@ -3,3 +3,4 @@ pub mod Replay
 pub mod RowOfSteps
 pub mod RestDay
 pub mod Beyond
+pub mod Kinds

@@ -1,5 +1,5 @@
 // The calls that engine_c exports for C. Each contract gives the answer and every byte at exit, for all bytes and
-// numbers; none has a `requires`. The table is lent as `&[u8]` to all but compile: they leave it as it was.
+// numbers; none has a `requires`. What is lent as `&[u8]`, the table to all but compile, stays as it was by its type.
 
 #![tactic(auto)]
 
@@ -35,14 +35,13 @@ ghost use Rattle.refine_calls.specs.Refinement.{told_on, call_on, answers_on, ro
 ghost use Rattle.engine.specs.Replay.{call_of, calls_from, put_answers, call_count};
 
 use spec_language::answers;
+use steps::CallKind;
 
 mod steps;
 
 // The table of a sheet with its parameters. 0, or the refusal's number, 1, 3 to 13 or 20, the table as it was.
 pub fn compile(sheet: &[u8], params: &[u8], table: &mut [u8]) -> u32
     ensures table_after { compiled result table.new ≡ compile_on sheet.now params.now table.old }
-    ensures sheet_value { sheet.now ≡ sheet.now }
-    ensures params_value { params.now ≡ params.now }
 {
     back_compile::compile_at(sheet, params, table)
 }
@@ -51,8 +50,6 @@ pub fn compile(sheet: &[u8], params: &[u8], table: &mut [u8]) -> u32
 // event times 256 (255 for none) and its length times 65,536, and it in the list's first bytes, where it has room.
 pub fn circle(sheet: &[u8], params: &[u8], list: &mut [u8]) -> u64
     ensures witnessed { Witnessed sheet.now params.now list.old result list.new }
-    ensures sheet_value { sheet.now ≡ sheet.now }
-    ensures params_value { params.now ≡ params.now }
 {
     ask_circle::circle_at(sheet, params, list)
 }
@@ -60,7 +57,6 @@ pub fn circle(sheet: &[u8], params: &[u8], list: &mut [u8]) -> u64
 // A fresh round. 0, or 14.
 pub fn start(table: &[u8], round: &mut [u8]) -> u32
     ensures round_after { call_result result round.new ≡ start_on table.now round.old }
-    ensures table_value { table.now ≡ table.now }
 {
     run_start::start_round(table, round)
 }
@@ -68,7 +64,6 @@ pub fn start(table: &[u8], round: &mut [u8]) -> u32
 // An event arrives, sent by a player. 0, or 14, 24, 15, 25, 16, 17.
 pub fn arrive(table: &[u8], round: &mut [u8], event: u32, player: u32) -> u32
     ensures round_after { call_result result round.new ≡ arrive_on table.now round.old event player }
-    ensures table_value { table.now ≡ table.now }
 {
     run_arrive::arrive_at(table, round, event, player)
 }
@@ -77,7 +72,6 @@ pub fn arrive(table: &[u8], round: &mut [u8], event: u32, player: u32) -> u32
 // number; or 14. With a commit 2 ^ 56 more where the event ran over (02, M-104): the host's answer.
 pub fn step(table: &[u8], round: &mut [u8]) -> u64
     ensures round_after { call_result result round.new ≡ step_on table.now round.old }
-    ensures table_value { table.now ≡ table.now }
 {
     run_step::step_at(table, round)
 }
@@ -92,8 +86,6 @@ pub fn told(answer: u64) -> u64
 // The value of a behaviour, for a player: 2 ^ 32 and the word; or 14, 24, 18, 25, 19.
 pub fn board(table: &[u8], round: &[u8], behaviour: u32, player: u32) -> u64
     ensures value { result ≡ board_on table.now round.now behaviour player }
-    ensures table_value { table.now ≡ table.now }
-    ensures round_value { round.now ≡ round.now }
 {
     run_board::board_at(table, round, behaviour, player)
 }
@@ -102,8 +94,6 @@ pub fn board(table: &[u8], round: &[u8], behaviour: u32, player: u32) -> u64
 // number; or 14.
 pub fn forecast(table: &[u8], round: &[u8]) -> u64
     ensures value { result ≡ forecast_on table.now round.now }
-    ensures table_value { table.now ≡ table.now }
-    ensures round_value { round.now ≡ round.now }
 {
     run_forecast::forecast_at(table, round)
 }
@@ -112,8 +102,6 @@ pub fn forecast(table: &[u8], round: &[u8]) -> u64
 // 14, 24, 15, 25, 16, 17, 18, 25, and last 14 where a step on the copy is refused or 01's count runs out.
 pub fn preview(table: &[u8], round: &[u8], event: u32, behaviour: u32, player: u32) -> u64
     ensures value { result ≡ preview_on table.now round.now event behaviour player }
-    ensures table_value { table.now ≡ table.now }
-    ensures round_value { round.now ≡ round.now }
 {
     run_preview::preview_at(table, round, event, behaviour, player)
 }
@@ -122,8 +110,6 @@ pub fn preview(table: &[u8], round: &[u8], event: u32, behaviour: u32, player: u
 // of both sheets keep their value. 0, or 14, 19, 28, the round as it was.
 pub fn mend(old: &[u8], table: &[u8], round: &mut [u8]) -> u32
     ensures round_after { call_result result round.new ≡ mend_on old.now table.now round.old }
-    ensures value { old.now ≡ old.now }
-    ensures table_value { table.now ≡ table.now }
 {
     run_mend::mend_at(old, table, round)
 }
@@ -132,7 +118,6 @@ pub fn mend(old: &[u8], table: &[u8], round: &mut [u8]) -> u32
 // was.
 pub fn formula(text: &[u8], buffer: &mut [u8]) -> u64
     ensures buffer_after { answered result buffer.new ≡ formula_on text.now buffer.old }
-    ensures text_value { text.now ≡ text.now }
 {
     text_translate::translate_at(text, buffer)
 }
@@ -141,9 +126,6 @@ pub fn formula(text: &[u8], buffer: &mut [u8]) -> u64
 // first, of the second, 26, 3, 7, 13, 27, the buffer as it was.
 pub fn join(first: &[u8], second: &[u8], params: &[u8], buffer: &mut [u8]) -> u64
     ensures buffer_after { joined result buffer.new ≡ join_on first.now second.now params.now buffer.old }
-    ensures first_value { first.now ≡ first.now }
-    ensures second_value { second.now ≡ second.now }
-    ensures params_value { params.now ≡ params.now }
 {
     link_join::join_at(first, second, params, buffer)
 }
@@ -161,23 +143,19 @@ const ANSWER_BYTES: usize = run_answers::ANSWER_BYTES;
 fn make_call(table: &[u8], round: &mut [u8], kind: u8, n: u32, player: u32) -> u64
     ensures { call_result result round.new ≡ call_on table.now (call_of kind n player) round.old }
 {
-    if kind == 0 {
-        return arrive(table, round, n, player) as u64;
+    match CallKind::from(kind) {
+        CallKind::Arrival => arrive(table, round, n, player) as u64,
+        CallKind::Step => step(table, round),
+        CallKind::Board => board(table, round, n, player),
     }
-    if kind == steps::STEP {
-        return step(table, round);
-    }
-    board(table, round, n, player)
 }
 
+#[tactic(auto, using(lib_base::proofs::Pick::branches), unfolding(crate::specs::Replay::call_count))]
 fn call_count(calls: usize, answers: usize) -> usize
     ensures value { result ≡ call_count calls answers }
     ensures result_bound { (result * 6 ≤ calls) × (result * 8 ≤ answers) }
 {
-    if calls / CALL_BYTES < answers / ANSWER_BYTES {
-        return calls / CALL_BYTES;
-    }
-    answers / ANSWER_BYTES
+    (calls / CALL_BYTES).min(answers / ANSWER_BYTES)
 }
 
 // Makes the recorded calls one after the other, and writes their answers: what a host needs to audit a round. Steps in
@@ -187,8 +165,6 @@ pub fn replay(table: &[u8], round: &mut [u8], calls: &[u8], answers: &mut [u8]) 
     ensures round_after { round.new ≡ round_after table.now (calls_from calls.now 0 result) round.old }
     ensures answers_after { answers.new ≡ put_answers answers.old 0
         (answers_on table.now (calls_from calls.now 0 result) round.old) }
-    ensures table_value { table.now ≡ table.now }
-    ensures calls_value { calls.now ≡ calls.now }
 {
     let n = call_count(calls.len(), answers.len());
     let mut i = 0;
@@ -223,7 +199,6 @@ pub fn version() -> u32
 // How many events a table's program declares: 2 ^ 32 and their number; or 14.
 pub fn event_count(table: &[u8]) -> u64
     ensures value { result ≡ event_count_on table.now }
-    ensures table_value { table.now ≡ table.now }
 {
     run_counts::events_of(table)
 }
@@ -231,7 +206,6 @@ pub fn event_count(table: &[u8]) -> u64
 // How many behaviours it has: 2 ^ 32 and their number; or 14.
 pub fn behaviour_count(table: &[u8]) -> u64
     ensures value { result ≡ behaviour_count_on table.now }
-    ensures table_value { table.now ≡ table.now }
 {
     run_counts::behaviours_of(table)
 }
@@ -239,7 +213,6 @@ pub fn behaviour_count(table: &[u8]) -> u64
 // An event's rank: 2 ^ 32 and the rank; or 14, 15.
 pub fn event_rank(table: &[u8], event: u32) -> u64
     ensures value { result ≡ event_rank_on table.now event }
-    ensures table_value { table.now ≡ table.now }
 {
     run_counts::rank_of(table, event)
 }
@@ -251,7 +224,6 @@ pub fn event_rank(table: &[u8], event: u32) -> u64
 // 0 all made, 2 the next is refused by 14, 3 no room for a further commit; 0 where no step is asked for.
 pub fn frame(table: &[u8], round: &mut [u8], steps: u32, commits: &mut [u8]) -> u64
     ensures commits_after { framed result round.new commits.new ≡ frame_on table.now round.old steps commits.old }
-    ensures table_value { table.now ≡ table.now }
 {
     run_frame::frame_at(&*table, round, steps, commits)
 }
@@ -273,7 +245,6 @@ pub fn deliver(
 ) -> u64
     ensures commits_after { delivery result round.new commits.new
         ≡ deliver_on table.now round.old number event player commits.old }
-    ensures table_value { table.now ≡ table.now }
 {
     run_deliver::deliver_at(&*table, round, number, event, player, commits)
 }
@@ -282,8 +253,6 @@ pub fn deliver(
 // hand; or 14.
 pub fn taken(table: &[u8], round: &[u8]) -> u64
     ensures value { result ≡ taken_on table.now round.now }
-    ensures table_value { table.now ≡ table.now }
-    ensures round_value { round.now ≡ round.now }
 {
     run_deliver::taken_at(table, round)
 }
@@ -295,8 +264,6 @@ pub fn taken(table: &[u8], round: &[u8]) -> u64
 // them writes and the other reads or writes: the least first event, then the least second, then the least behaviour.
 pub fn agree(sheet: &[u8], params: &[u8]) -> u64
     ensures value { result ≡ agree_on sheet.now params.now }
-    ensures sheet_value { sheet.now ≡ sheet.now }
-    ensures params_value { params.now ≡ params.now }
 {
     ask_agree::agree_at(sheet, params)
 }
@@ -307,8 +274,6 @@ pub fn agree(sheet: &[u8], params: &[u8]) -> u64
 // then the least second, then the least behaviour.
 pub fn agree_for(sheet: &[u8], params: &[u8], behaviour: u32) -> u64
     ensures value { result ≡ agree_for_on sheet.now params.now behaviour }
-    ensures sheet_value { sheet.now ≡ sheet.now }
-    ensures params_value { params.now ≡ params.now }
 {
     ask_agree_for::agree_for_at(sheet, params, behaviour)
 }
@@ -319,8 +284,6 @@ pub fn agree_for(sheet: &[u8], params: &[u8], behaviour: u32) -> u64
 // both only add to it, 32 they meet there.
 pub fn pair(sheet: &[u8], params: &[u8], first: u32, second: u32) -> u64
     ensures value { result ≡ pair_on sheet.now params.now first second }
-    ensures sheet_value { sheet.now ≡ sheet.now }
-    ensures params_value { params.now ≡ params.now }
 {
     ask_pair::pair_at(sheet, params, first, second)
 }
@@ -330,8 +293,6 @@ pub fn pair(sheet: &[u8], params: &[u8], first: u32, second: u32) -> u64
 // hidden one times 256, and times 65,536 the least hidden one that this names.
 pub fn leak(sheet: &[u8], params: &[u8], player: u32) -> u64
     ensures value { result ≡ leak_on sheet.now params.now player }
-    ensures sheet_value { sheet.now ≡ sheet.now }
-    ensures params_value { params.now ≡ params.now }
 {
     ask_leak::leak_at(sheet, params, player)
 }
@@ -342,7 +303,6 @@ pub fn leak(sheet: &[u8], params: &[u8], player: u32) -> u64
 // 31 to 42, times 2 ^ 56, its line times 2 ^ 28 and its column, the buffer as it was.
 pub fn assemble(text: &[u8], buffer: &mut [u8]) -> u64
     ensures buffer_after { answered result buffer.new ≡ assemble_number text.now buffer.old }
-    ensures text_value { text.now ≡ text.now }
 {
     source_assemble::assemble_at(text, buffer)
 }
@@ -351,7 +311,6 @@ pub fn assemble(text: &[u8], buffer: &mut [u8]) -> u64
 // then 41, the buffer as it was.
 pub fn describe(sheet: &[u8], buffer: &mut [u8]) -> u64
     ensures buffer_after { answered result buffer.new ≡ describe_on sheet.now buffer.old }
-    ensures sheet_value { sheet.now ≡ sheet.now }
 {
     source_describe::describe_at(sheet, buffer)
 }

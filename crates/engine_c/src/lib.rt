@@ -38,8 +38,6 @@ ghost use Rattle.engine.specs.Replay.{calls_from, put_answers, call_count};
 #[unsafe(no_mangle)]
 pub extern "C" fn compile(sheet: &[u8], params: &[u8], table: &mut [u8]) -> u32
     ensures table_after { compiled result table.new ≡ compile_on sheet.now params.now table.old }
-    ensures sheet_value { sheet.now ≡ sheet.now }
-    ensures params_value { params.now ≡ params.now }
 {
     engine::compile(sheet, params, table)
 }
@@ -49,8 +47,6 @@ pub extern "C" fn compile(sheet: &[u8], params: &[u8], table: &mut [u8]) -> u32
 #[unsafe(no_mangle)]
 pub extern "C" fn circle(sheet: &[u8], params: &[u8], list: &mut [u8]) -> u64
     ensures witnessed { Witnessed sheet.now params.now list.old result list.new }
-    ensures sheet_value { sheet.now ≡ sheet.now }
-    ensures params_value { params.now ≡ params.now }
 {
     engine::circle(sheet, params, list)
 }
@@ -59,7 +55,6 @@ pub extern "C" fn circle(sheet: &[u8], params: &[u8], list: &mut [u8]) -> u64
 #[unsafe(no_mangle)]
 pub extern "C" fn start(table: &[u8], round: &mut [u8]) -> u32
     ensures round_after { call_result result round.new ≡ start_on table.now round.old }
-    ensures table_value { table.now ≡ table.now }
 {
     engine::start(table, round)
 }
@@ -68,7 +63,6 @@ pub extern "C" fn start(table: &[u8], round: &mut [u8]) -> u32
 #[unsafe(no_mangle)]
 pub extern "C" fn arrive(table: &[u8], round: &mut [u8], event: u32, player: u32) -> u32
     ensures round_after { call_result result round.new ≡ arrive_on table.now round.old event player }
-    ensures table_value { table.now ≡ table.now }
 {
     engine::arrive(table, round, event, player)
 }
@@ -78,7 +72,6 @@ pub extern "C" fn arrive(table: &[u8], round: &mut [u8], event: u32, player: u32
 #[unsafe(no_mangle)]
 pub extern "C" fn step(table: &[u8], round: &mut [u8]) -> u64
     ensures round_after { call_result result round.new ≡ step_on table.now round.old }
-    ensures table_value { table.now ≡ table.now }
 {
     engine::step(table, round)
 }
@@ -95,8 +88,6 @@ pub extern "C" fn told(answer: u64) -> u64
 #[unsafe(no_mangle)]
 pub extern "C" fn board(table: &[u8], round: &[u8], behaviour: u32, player: u32) -> u64
     ensures value { result ≡ board_on table.now round.now behaviour player }
-    ensures table_value { table.now ≡ table.now }
-    ensures round_value { round.now ≡ round.now }
 {
     engine::board(table, round, behaviour, player)
 }
@@ -106,8 +97,6 @@ pub extern "C" fn board(table: &[u8], round: &[u8], behaviour: u32, player: u32)
 #[unsafe(no_mangle)]
 pub extern "C" fn forecast(table: &[u8], round: &[u8]) -> u64
     ensures value { result ≡ forecast_on table.now round.now }
-    ensures table_value { table.now ≡ table.now }
-    ensures round_value { round.now ≡ round.now }
 {
     engine::forecast(table, round)
 }
@@ -123,8 +112,6 @@ pub extern "C" fn preview(
     player: u32,
 ) -> u64
     ensures value { result ≡ preview_on table.now round.now event behaviour player }
-    ensures table_value { table.now ≡ table.now }
-    ensures round_value { round.now ≡ round.now }
 {
     engine::preview(table, round, event, behaviour, player)
 }
@@ -134,8 +121,6 @@ pub extern "C" fn preview(
 #[unsafe(no_mangle)]
 pub extern "C" fn mend(old: &[u8], table: &[u8], round: &mut [u8]) -> u32
     ensures round_after { call_result result round.new ≡ mend_on old.now table.now round.old }
-    ensures value { old.now ≡ old.now }
-    ensures table_value { table.now ≡ table.now }
 {
     engine::mend(old, table, round)
 }
@@ -145,7 +130,6 @@ pub extern "C" fn mend(old: &[u8], table: &[u8], round: &mut [u8]) -> u32
 #[unsafe(no_mangle)]
 pub extern "C" fn formula(text: &[u8], buffer: &mut [u8]) -> u64
     ensures buffer_after { answered result buffer.new ≡ formula_on text.now buffer.old }
-    ensures text_value { text.now ≡ text.now }
 {
     engine::formula(text, buffer)
 }
@@ -155,9 +139,6 @@ pub extern "C" fn formula(text: &[u8], buffer: &mut [u8]) -> u64
 #[unsafe(no_mangle)]
 pub extern "C" fn join(first: &[u8], second: &[u8], params: &[u8], buffer: &mut [u8]) -> u64
     ensures buffer_after { joined result buffer.new ≡ join_on first.now second.now params.now buffer.old }
-    ensures first_value { first.now ≡ first.now }
-    ensures second_value { second.now ≡ second.now }
-    ensures params_value { params.now ≡ params.now }
 {
     engine::join(first, second, params, buffer)
 }
@@ -172,8 +153,6 @@ pub extern "C" fn replay(table: &[u8], round: &mut [u8], calls: &[u8], answers: 
     ensures round_after { round.new ≡ round_after table.now (calls_from calls.now 0 result) round.old }
     ensures answers_after { answers.new ≡ put_answers answers.old 0
         (answers_on table.now (calls_from calls.now 0 result) round.old) }
-    ensures table_value { table.now ≡ table.now }
-    ensures calls_value { calls.now ≡ calls.now }
 {
     engine::replay(table, round, calls, answers)
 }
@@ -192,7 +171,6 @@ pub extern "C" fn version() -> u32
 #[unsafe(no_mangle)]
 pub extern "C" fn event_count(table: &[u8]) -> u64
     ensures value { result ≡ event_count_on table.now }
-    ensures table_value { table.now ≡ table.now }
 {
     engine::event_count(table)
 }
@@ -201,7 +179,6 @@ pub extern "C" fn event_count(table: &[u8]) -> u64
 #[unsafe(no_mangle)]
 pub extern "C" fn behaviour_count(table: &[u8]) -> u64
     ensures value { result ≡ behaviour_count_on table.now }
-    ensures table_value { table.now ≡ table.now }
 {
     engine::behaviour_count(table)
 }
@@ -210,7 +187,6 @@ pub extern "C" fn behaviour_count(table: &[u8]) -> u64
 #[unsafe(no_mangle)]
 pub extern "C" fn event_rank(table: &[u8], event: u32) -> u64
     ensures value { result ≡ event_rank_on table.now event }
-    ensures table_value { table.now ≡ table.now }
 {
     engine::event_rank(table, event)
 }
@@ -223,7 +199,6 @@ pub extern "C" fn event_rank(table: &[u8], event: u32) -> u64
 #[unsafe(no_mangle)]
 pub extern "C" fn frame(table: &[u8], round: &mut [u8], steps: u32, commits: &mut [u8]) -> u64
     ensures commits_after { framed result round.new commits.new ≡ frame_on table.now round.old steps commits.old }
-    ensures table_value { table.now ≡ table.now }
 {
     engine::frame(table, round, steps, commits)
 }
@@ -246,7 +221,6 @@ pub extern "C" fn deliver(
 ) -> u64
     ensures commits_after { delivery result round.new commits.new
         ≡ deliver_on table.now round.old number event player commits.old }
-    ensures table_value { table.now ≡ table.now }
 {
     engine::deliver(table, round, number, event, player, commits)
 }
@@ -256,8 +230,6 @@ pub extern "C" fn deliver(
 #[unsafe(no_mangle)]
 pub extern "C" fn taken(table: &[u8], round: &[u8]) -> u64
     ensures value { result ≡ taken_on table.now round.now }
-    ensures table_value { table.now ≡ table.now }
-    ensures round_value { round.now ≡ round.now }
 {
     engine::taken(table, round)
 }
@@ -270,8 +242,6 @@ pub extern "C" fn taken(table: &[u8], round: &[u8]) -> u64
 #[unsafe(no_mangle)]
 pub extern "C" fn agree(sheet: &[u8], params: &[u8]) -> u64
     ensures value { result ≡ agree_on sheet.now params.now }
-    ensures sheet_value { sheet.now ≡ sheet.now }
-    ensures params_value { params.now ≡ params.now }
 {
     engine::agree(sheet, params)
 }
@@ -283,8 +253,6 @@ pub extern "C" fn agree(sheet: &[u8], params: &[u8]) -> u64
 #[unsafe(no_mangle)]
 pub extern "C" fn agree_for(sheet: &[u8], params: &[u8], behaviour: u32) -> u64
     ensures value { result ≡ agree_for_on sheet.now params.now behaviour }
-    ensures sheet_value { sheet.now ≡ sheet.now }
-    ensures params_value { params.now ≡ params.now }
 {
     engine::agree_for(sheet, params, behaviour)
 }
@@ -296,8 +264,6 @@ pub extern "C" fn agree_for(sheet: &[u8], params: &[u8], behaviour: u32) -> u64
 #[unsafe(no_mangle)]
 pub extern "C" fn pair(sheet: &[u8], params: &[u8], first: u32, second: u32) -> u64
     ensures value { result ≡ pair_on sheet.now params.now first second }
-    ensures sheet_value { sheet.now ≡ sheet.now }
-    ensures params_value { params.now ≡ params.now }
 {
     engine::pair(sheet, params, first, second)
 }
@@ -308,8 +274,6 @@ pub extern "C" fn pair(sheet: &[u8], params: &[u8], first: u32, second: u32) -> 
 #[unsafe(no_mangle)]
 pub extern "C" fn leak(sheet: &[u8], params: &[u8], player: u32) -> u64
     ensures value { result ≡ leak_on sheet.now params.now player }
-    ensures sheet_value { sheet.now ≡ sheet.now }
-    ensures params_value { params.now ≡ params.now }
 {
     engine::leak(sheet, params, player)
 }
@@ -321,7 +285,6 @@ pub extern "C" fn leak(sheet: &[u8], params: &[u8], player: u32) -> u64
 #[unsafe(no_mangle)]
 pub extern "C" fn assemble(text: &[u8], buffer: &mut [u8]) -> u64
     ensures buffer_after { answered result buffer.new ≡ assemble_number text.now buffer.old }
-    ensures text_value { text.now ≡ text.now }
 {
     engine::assemble(text, buffer)
 }
@@ -331,7 +294,6 @@ pub extern "C" fn assemble(text: &[u8], buffer: &mut [u8]) -> u64
 #[unsafe(no_mangle)]
 pub extern "C" fn describe(sheet: &[u8], buffer: &mut [u8]) -> u64
     ensures buffer_after { answered result buffer.new ≡ describe_on sheet.now buffer.old }
-    ensures sheet_value { sheet.now ≡ sheet.now }
 {
     engine::describe(sheet, buffer)
 }

@@ -1,2 +1,4 @@
 pub mod BoundsLaws
 pub mod Examples
+pub mod Ranges
+pub mod Codes

@@ -74,17 +74,12 @@ fn codes_fit(table: &[u8], n: u32) -> bool
     requires { (table_bytes ≤ length table.now) × (n ≤ event_limit) }
     ensures { result ≡ codes_fit table.now n }
 {
-    let mut i = n;
-    while i > 0 {
-        i -= 1;
-        if !code_fits(
+    (0..n).all(|i| {
+        code_fits(
             event_word(table, i, table::CODE_START),
             event_word(table, i, table::CODE_LENGTH),
-        ) {
-            return false;
-        }
-    }
-    true
+        )
+    })
 }
 
 // Whether a table is not foreign: 01's conditions on it.

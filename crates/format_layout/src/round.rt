@@ -5,7 +5,7 @@ ghost use Rattle.format_layout.specs.Fresh.{fresh_of};
 use spec_language::limits;
 
 // A round (01's word) as it begins: number taken in, waiting count, whether one runs, the store. Its other words are 0.
-#[derive(Drop)]
+#[derive(Clone, PartialEq, Eq, Debug, Drop)]
 pub struct Round {
     pub taken: u32,
     pub waiting: u32,
@@ -21,8 +21,6 @@ impl Round {
     pub const ARRIVALS: u32 = 1000000;
 
     pub const BYTES: usize = 2048;
-
-    pub const WORD_COUNT: usize = 512;
 
     pub const TAKEN: usize = 0;
 
@@ -67,42 +65,7 @@ impl Round {
             taken: 0,
             waiting: 0,
             running: 0,
-            store: store,
+            store,
         }
     }
 }
-
-// The same by short names.
-pub const BYTES: usize = Round::BYTES;
-
-pub const WORD_COUNT: usize = Round::WORD_COUNT;
-
-pub const TAKEN: usize = Round::TAKEN;
-
-pub const WAITING: usize = Round::WAITING;
-
-pub const PLAYER: u32 = Round::PLAYER;
-
-pub const RUNNING: usize = Round::RUNNING;
-
-pub const RUNNING_WORD: usize = Round::RUNNING_WORD;
-
-pub const RUNNING_NUMBER: usize = Round::RUNNING_NUMBER;
-
-pub const POSITION: usize = Round::POSITION;
-
-pub const DEPTH: usize = Round::DEPTH;
-
-pub const MARK: usize = Round::MARK;
-
-pub const NUMBERS: usize = Round::NUMBERS;
-
-pub const WORDS: usize = Round::WORDS;
-
-pub const STORE: usize = Round::STORE;
-
-pub const SCRATCH: usize = Round::SCRATCH;
-
-pub const DEFERRED: usize = Round::DEFERRED;
-
-pub const STACK: usize = Round::STACK;

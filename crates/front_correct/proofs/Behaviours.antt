@@ -1,5 +1,9 @@
 -- Behaviours: both readers find the same fault, or the draft has the behaviour of the tree in its row, and is else as
 -- it was. From the facts on an expression at the front of a value, on handlers and on the ending.
+use Rattle.std.specs.Prelude.{Err, IsErrAnd}
+use Rattle.std.proofs.lemmas.Result.{err_from_is_err_and}
+use Rattle.spec_language.specs.Numbers.{refusal_number}
+use Rattle.spec_language.specs.declared.refusals.Refusal.TheVariants.{WrongLength}
 use Rattle.lib_base.proofs.Prelude.{ℕ, ◌≤◌, ◌<◌, ◌+◌, ◌-◌, suc, ◌*◌, ◌≡◌, refl, ◌∙◌, sym, ap, true, ◌||◌, ◌≢◌, Option}
 use Rattle.lib_base.proofs.Prelude.{List, [], ◌∷◌, ◌++◌, append-nil, length, get_or, take, drop, length-set, set}
 use Rattle.lib_base.proofs.Prelude.{length-drop, get_or-set_other, get_or-set_same, get_or-drop, sets, get_or-take, take-set-le}
@@ -18,8 +22,7 @@ use Rattle.spec_language.specs.Reading.{Got, bad, got, then, sized, filling, byt
 use Rattle.spec_grammar.proofs.Handlers.{stops}
 use Rattle.spec_grammar.proofs.Behaviours.{behaviour_tag}
 use Rattle.sheet_field.specs.Field.{stated}
-use Rattle.front_field.specs.Expression.{Out, out, rest_from, go_on_after, expr_of}
-use Rattle.front_field.specs.declared.Read.TheVariants.{Done, Fault}
+use Rattle.front_field.specs.Expression.{done, Out, out, rest_from, go_on_after, expr_of}
 use Rattle.draft_form.specs.Draft as draft
 use Rattle.draft_form.specs.Draft.{draft_length, nodes, handler_nodes, behaviour_nodes, unfilled}
 use Rattle.front_rows.specs.Cells.{least_of, most_of, cells_at, row_copied}
@@ -103,9 +106,9 @@ GrownBy i d n (row c y hs) w d' m = (1 ≤ c) × (i + c ≤ 64) × (d₁ : List 
 
 -- what both readers say of behaviour i, a field of `size` bytes at the front of s that makes `count` behaviours
 abbrev pub SameBehaviour : ℕ → ℕ → List ℕ → ℕ → List ℕ → ℕ → Got Entry → Out → Type 0
-SameBehaviour i count s size d n (bad k) o = o.0 ≡ Fault k
+SameBehaviour i count s size d n (bad k) o = IsErrAnd o.0 (λ r. refusal_number r ≡ k)
 SameBehaviour i count s size d n (got b r) o =
-    (r ≡ drop size s) × (size ≤ length s) × (m : ℕ) × (o.0 ≡ Done size m) × (m * 4 ≤ n * 4 + size) × GrownBy i d n b.item b.viewer o.1 m × (count ≡ cells b.item)
+    (r ≡ drop size s) × (size ≤ length s) × (m : ℕ) × (o.0 ≡ done size m) × (m * 4 ≤ n * 4 + size) × GrownBy i d n b.item b.viewer o.1 m × (count ≡ cells b.item)
 
 module _ (events i : ℕ) (d : List ℕ) (n : ℕ) (few : events ≤ 32) (low : i < 64) (long : length d ≡ draft_length) (blank : Blank d i)
     (s : List ℕ) (size : ℕ) (small : n * 4 + size ≤ 8192) (r : List ℕ) (after : r ≡ drop size s) (fits : size ≤ length s) (count : ℕ) where
@@ -145,7 +148,7 @@ module _ (events i : ℕ) (d : List ℕ) (n : ℕ) (few : events ≤ 32) (low : 
     passive_on_law : (g : Got Term) (o : Out) → SameExpr v (span v) d n g o
         → Same (filling (then g (λ x left. ending_in (formula x) left)) r)
         (go_on_after o.0 o.1 (λ z m. ending_of (rest_from z v) i (set o.1 (4096 + i) (draft.packed_entry 1 n (m - n))) (length v + 3) m))
-    passive_on_law (bad k) o e = rw e refl
+    passive_on_law (bad k) o e = let p = err_from_is_err_and o.0 e in rw p.1 p.2
     passive_on_law (got x l) o h =
         rw (h.3, h.0, add-sub_cancel_left n (size_of (raw x)), rest_drop (span v) v)
         (same_ending Same (formula x) r i (set (sets d n (nodes (raw x))) (4096 + i) (draft.packed_entry 1 n (size_of (raw x)))) (length v + 3) (n + size_of (raw x)) (λ k o e. e)
@@ -166,9 +169,9 @@ module _ (events i : ℕ) (d : List ℕ) (n : ℕ) (few : events ≤ 32) (low : 
 
   -- ---- an active, and what begins like one: P holds of what `make` makes of its start and handlers
 
-  module _ (make : ℕ → List Clause → Item) (P : Got Entry → Out → Type 0) (v : List ℕ) (room : n * 4 + length v + 3 ≤ 8192) (bads : (k : ℕ) (o : Out) → o.0 ≡ Fault k → P (bad k) o)
+  module _ (make : ℕ → List Clause → Item) (P : Got Entry → Out → Type 0) (v : List ℕ) (room : n * 4 + length v + 3 ≤ 8192) (bads : (k : ℕ) (o : Out) → IsErrAnd o.0 (λ r. refusal_number r ≡ k) → P (bad k) o)
       (gots : (w : ℕ) (hs : List Clause) (x : Option ℕ) (d₁ : List ℕ) (m : ℕ) → m * 4 ≤ n * 4 + length v → Part i d n (active w (fill_clauses unfilled hs)) d₁ m
-      → P (got (entry (make w hs) x) r) (out (Done (length v + 3) m) (set d₁ (viewer i) (allowed x)))) where
+      → P (got (entry (make w hs) x) r) (out (done (length v + 3) m) (set d₁ (viewer i) (allowed x)))) where
     no_handlers : (w : ℕ) → Turn i w d n [] (set d (4160 + i) w) n
     unfolding handler_nodes handled fill_clauses
     no_handlers w = record {
@@ -184,7 +187,7 @@ module _ (events i : ℕ) (d : List ℕ) (n : ℕ) (few : events ≤ 32) (low : 
 
     active_end : (w : ℕ) (g : Got (List Clause)) (o : Out) → SameHandlers i w d n v (n * 4 + length v) g o
         → P (filling (then g (λ hs over. ending_in (make w hs) over)) r) (go_on_after o.0 o.1 (λ at m. ending_of (rest_from at v) i o.1 (length v + 3) m))
-    active_end w (bad k) o e = rw e (bads k (out (Fault k) o.1) refl)
+    active_end w (bad k) o e = let p = err_from_is_err_and o.0 e in rw p.1 (bads k (out (Err p.0) o.1) p.2)
     active_end w (got hs over) o h =
         let t = h.5 in
         rw (h.3, h.1, rest_drop h.0 v)
@@ -206,17 +209,17 @@ module _ (events i : ℕ) (d : List ℕ) (n : ℕ) (few : events ≤ 32) (low : 
     Started g o = P (filling (then g (λ w left. then (read_all stops (handler_in events) (suc (length left)) [] left) (λ hs over. ending_in (make w hs) over))) r) o
 
     start_value : (u left : List ℕ) (z : ℕ) → length u ≡ z → left ≡ drop (z + 3) v → z + 3 ≤ length v
-        → Started (filling (sized 4 u (got (get_at u 0) [])) left) (pick (eqb z 4) (active_body v events i (set d (4160 + i) (get_at u 0)) n) (out (Fault 6) d))
+        → Started (filling (sized 4 u (got (get_at u 0) [])) left) (pick (eqb z 4) (active_body v events i (set d (4160 + i) (get_at u 0)) n) (out (Err WrongLength) d))
     start_value u left z q e h =
         rw q
         (by_two (λ (g : Got ℕ) (o : Out). Started (filling g left) o) (eqb z 4)
         (λ c. let p : z + 3 ≡ 7 = omega (arith, eqb-true z 4 c) in active_on (get_at u 0) left (e ∙ rw p) (omega arith))
-        (λ c. bads 6 (out (Fault 6) d) refl))
+        (λ c. bads 6 (out (Err WrongLength) d) refl))
 
     active_value : P (filling (active_as make events v) r) (active_of v events i d n)
     unfolding active_of
     active_value =
-        same_field Started (eqb 4) 4 4 v (λ t w. sized 4 w (got (get_at w 0) [])) (λ f w. active_from f w v events i d n) (one_tag 4 (get_or v 0 0)) (λ k. bads k (out (Fault k) d) refl)
+        same_field Started (eqb 4) 4 4 v (λ t w. sized 4 w (got (get_at w 0) [])) (λ f w. active_from f w v events i d n) (one_tag 4 (get_or v 0 0)) (λ r. bads (refusal_number r) (out (Err r) d) refl)
         (λ fits due. start_value (value_in v) (drop (span v) v) (stated v) (omega (arith, value_length v fits)) refl fits)
 
   module _ (v : List ℕ) (full : length v + 3 ≡ size) where
@@ -229,12 +232,12 @@ module _ (events i : ℕ) (d : List ℕ) (n : ℕ) (few : events ≤ 32) (low : 
 
   module _ (c : ℕ) (v : List ℕ) (full : length v + 4 ≡ size) (is : count ≡ c) (some : 1 ≤ c) (within : i + c ≤ 64) where
     abbrev SameCells : Got Entry → Out → Type 0
-    SameCells g o = Same g (go_on_after o.0 o.1 (λ z m. out (Done (z + 1) m) (row_copied o.1 i c)))
+    SameCells g o = Same g (go_on_after o.0 o.1 (λ z m. out (done (z + 1) m) (row_copied o.1 i c)))
 
     cells_same : Same (filling (active_as (row c) events v) r) (cells_of v c events i d n)
     unfolding cells_of
     cells_same =
-        active_value (row c) SameCells v (omega arith) (λ k o e. rw e refl)
+        active_value (row c) SameCells v (omega arith) (λ k o e. let p = err_from_is_err_and o.0 e in rw p.1 p.2)
         (λ w hs x d₁ m h p.
         let q : length v + 3 + 1 ≡ size = omega arith in
         (after, fits, m, rw q, omega arith, (some, within, set d₁ (viewer i) (allowed x), part_ended i n d d₁ m (state w hs) low (omega arith) p x, refl), is))
@@ -287,7 +290,7 @@ cells_many s fits h c u e =
 
 module _ (rs : List Signal) (i : ℕ) (d : List ℕ) (n : ℕ) (few : length rs ≤ 32) (long : length d ≡ draft_length) (blank : i < 64 → Blank d i)
     (s : List ℕ) (small : n * 4 + length s ≤ 8192) where
-  no_room : (t : ℕ) (v : List ℕ) → leb 64 i ≡ true → (value_at t v (length rs) i d n).0 ≡ Fault 7
+  no_room : (t : ℕ) (v : List ℕ) → leb 64 i ≡ true → IsErrAnd (value_at t v (length rs) i d n).0 (λ r. refusal_number r ≡ 7)
   unfolding value_at
   no_room t v e = rw e refl
 

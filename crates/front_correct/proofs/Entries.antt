@@ -1,5 +1,9 @@
 -- An expression that stands in the draft with its entry, and that later writes leave it there: they go to nodes after
 -- it, and to other entries.
+use Rattle.std.specs.Prelude.{Err, IsErrAnd}
+use Rattle.std.proofs.lemmas.Result.{err_from_is_err_and}
+use Rattle.spec_language.specs.Numbers.{refusal_number}
+use Rattle.spec_language.specs.declared.refusals.Refusal.TheVariants.{WrongLength}
 use Rattle.lib_base.proofs.Prelude.{ℕ, ◌≤◌, ◌<◌, ◌+◌, ◌-◌, ◌*◌, ◌≡◌, refl, ◌∙◌, sym, ap, subst, false, not, ◌≢◌, List}
 use Rattle.lib_base.proofs.Prelude.{[], ◌∷◌, ◌++◌, length, get_or, take, drop, length-set, set, get_or-set_other}
 use Rattle.lib_base.proofs.Prelude.{get_or-set_same, length-take-le, sets, take-set-le, eqb, ne_eqb, eq-eqb, arith}
@@ -13,8 +17,7 @@ use Rattle.spec_language.specs.Dependence.{Response, follows, takes, defers, kee
 use Rattle.spec_language.specs.Code.{size_of}
 use Rattle.spec_language.specs.Reading.{Got, bad, got, then, filling, expr_at, handles}
 use Rattle.spec_language.proofs.Laws.{handled_here, handled_there}
-use Rattle.front_field.specs.Expression.{Out, out, go_on_after, expr_of}
-use Rattle.front_field.specs.declared.Read.TheVariants.{Done, Fault}
+use Rattle.front_field.specs.Expression.{done, Out, out, go_on_after, expr_of}
 use Rattle.draft_form.specs.Draft.{draft_length, nodes, packed_entry, unfilled}
 use Rattle.draft_form.proofs.DraftLaws.{length_nodes, size_positive}
 use Rattle.front_behaviours.specs.Handler.{entry_at, slot}
@@ -26,9 +29,9 @@ use Rattle.front_correct.proofs.Expressions.{raw, SameExpr, same_expr}
 
 -- an expression that fills v
 pub same_entry : {A : Type 0} (P : Got A → Out → Type 0) (F : Term → A) (v r d : List ℕ) (n place kind over : ℕ)
-    → ((k : ℕ) (o : Out) → o.0 ≡ Fault k → P (bad k) o)
+    → ((k : ℕ) (o : Out) → IsErrAnd o.0 (λ r. refusal_number r ≡ k) → P (bad k) o)
     → ((x : Term) → size_of (raw x) * 4 ≤ length v
-    → P (got (F x) r) (out (Done (length v + over) (n + size_of (raw x))) (set (sets d n (nodes (raw x))) place (packed_entry kind n (size_of (raw x))))))
+    → P (got (F x) r) (out (done (length v + over) (n + size_of (raw x))) (set (sets d n (nodes (raw x))) place (packed_entry kind n (size_of (raw x))))))
     → P (filling (then (expr_at 16 v) (λ x left. got (F x) left)) r) (entry_at v d n place kind over)
 unfolding entry_at
 same_entry P F v r d n place kind over bads gots = go (expr_at 16 v) (expr_of 16 v d n) (same_expr 16 v d n)
@@ -36,11 +39,11 @@ same_entry P F v r d n place kind over bads gots = go (expr_at 16 v) (expr_of 16
     go : (g : Got Term) (o : Out) → SameExpr v (span v) d n g o
         → P (filling (then g (λ x left. got (F x) left)) r)
         (go_on_after o.0 o.1
-        (λ size m. pick (eqb size (length v)) (out (Done (size + over) m) (set o.1 place (packed_entry kind n (m - n)))) (out (Fault 6) o.1)))
-    go (bad k) o e = rw e (bads k (out (Fault k) o.1) refl)
+        (λ size m. pick (eqb size (length v)) (out (done (size + over) m) (set o.1 place (packed_entry kind n (m - n)))) (out (Err WrongLength) o.1)))
+    go (bad k) o e = let p = err_from_is_err_and o.0 e in rw p.1 (bads k (out (Err p.0) o.1) p.2)
     go (got x l) o h =
         rw (h.3, h.0, add-sub_cancel_left n (size_of (raw x)))
-        (whole_at P (got (F x) r) v (span v) _ _ h.1 (λ e. rw e (gots x (omega arith))) (bads 6 (out (Fault 6) (sets d n (nodes (raw x)))) refl))
+        (whole_at P (got (F x) r) v (span v) _ _ h.1 (λ e. rw e (gots x (omega arith))) (bads 6 (out (Err WrongLength) (sets d n (nodes (raw x)))) refl))
 
 -- ---- an expression that stands
 

@@ -1,5 +1,9 @@
 -- Where the tree reader and the reader by positions meet: a field, the end of a value, and what is left over.
 -- Both readers make the same tests in the same order, so one walk follows both.
+use Rattle.std.specs.Prelude.{Ok, Err}
+use Rattle.spec_language.specs.Numbers.{refusal_number}
+use Rattle.spec_language.specs.declared.refusals.Refusal.{Refusal}
+use Rattle.spec_language.specs.declared.refusals.Refusal.TheVariants.{Torn, WrongTag}
 use Rattle.lib_base.proofs.Prelude.{ℕ, ◌≤◌, ◌+◌, ◌-◌, ◌≡◌, refl, ◌∙◌, sym, ap, true, false, Bool, ◌||◌, List, []}
 use Rattle.lib_base.proofs.Prelude.{length, get_or, take, drop, length-drop, length-take-le, get_or-drop, take_all, eqb}
 use Rattle.lib_base.proofs.Prelude.{ltb, ne_eqb, eqb-true, le-ltb, lt-ltb, eq-eqb, ltb-false, eqb-false, ltb-true}
@@ -9,10 +13,8 @@ use Rattle.lib_base.proofs.Tools.{split, by_two}
 use Rattle.spec_language.specs.Refusals.{wrong_length}
 use Rattle.spec_language.specs.Reading.{Got, bad, sized, filling, field_at, is_term}
 use Rattle.spec_grammar.proofs.Handlers.{stops}
-use Rattle.sheet_field.specs.Field.{stated, field_of, part_of}
+use Rattle.sheet_field.specs.Field.{Field, stated, field_of, part_of}
 use Rattle.front_field.specs.Expression.{rest_from}
-use Rattle.sheet_field.specs.declared.Field.{Field}
-use Rattle.sheet_field.specs.declared.Field.TheVariants.{Value, Refused}
 
 -- the bytes of a field's value, and the size of the field
 abbrev pub value_in : List ℕ → List ℕ
@@ -55,18 +57,18 @@ length_test s n h =
 
 -- to prove P of both where a field is due: of each fault, and of what both make of the field at the front of s
 pub same_field : {A B : Type 0} (P : Got A → B → Type 0) (due : ℕ → Bool) (lo hi : ℕ) (s : List ℕ)
-    (f : ℕ → List ℕ → Got A) (g : Field → List ℕ → B) → due (get_or s 0 0) ≡ between lo hi (get_or s 0 0) → ((k : ℕ) → P (bad k) (g (Refused k) []))
-    → (span s ≤ length s → due (get_or s 0 0) ≡ true → P (filling (f (get_or s 0 0) (value_in s)) (drop (span s) s)) (g (Value (get_or s 0 0) (stated s)) (value_in s)))
+    (f : ℕ → List ℕ → Got A) (g : Field → List ℕ → B) → due (get_or s 0 0) ≡ between lo hi (get_or s 0 0) → ((r : Refusal) → P (bad (refusal_number r)) (g (Err r) []))
+    → (span s ≤ length s → due (get_or s 0 0) ≡ true → P (filling (f (get_or s 0 0) (value_in s)) (drop (span s) s)) (g (Ok (record { tag = get_or s 0 0; size = stated s })) (value_in s)))
     → P (field_at due s f) (g (field_of s lo hi) (part_of s (field_of s lo hi)))
 unfolding field_at field_of
 same_field P due lo hi s f g same bads goods =
-    split (ltb (length s) 3) (λ e. rw e (bads 4))
-    (λ e. split (ltb (get_or s 0 0) lo) (λ d. let q : due (get_or s 0 0) ≡ false = same ∙ rw d in rw (e, q, d) (bads 5))
-    (λ d. split (ltb hi (get_or s 0 0)) (λ c. let q : due (get_or s 0 0) ≡ false = same ∙ rw (d, c) in rw (e, q, d, c) (bads 5))
+    split (ltb (length s) 3) (λ e. rw e (bads Torn))
+    (λ e. split (ltb (get_or s 0 0) lo) (λ d. let q : due (get_or s 0 0) ≡ false = same ∙ rw d in rw (e, q, d) (bads WrongTag))
+    (λ d. split (ltb hi (get_or s 0 0)) (λ c. let q : due (get_or s 0 0) ≡ false = same ∙ rw (d, c) in rw (e, q, d, c) (bads WrongTag))
     (λ c.
     let q : due (get_or s 0 0) ≡ true = same ∙ rw (d, c) in
     let z = length_test s (stated s) (ltb-false (length s) 3 e) in
-    split (ltb (length s) (span s)) (λ b. rw (e, q, d, c, z, b) (bads 4)) (λ b. rw (e, q, d, c, z, b) (goods (ltb-false (length s) (span s) b) q)))))
+    split (ltb (length s) (span s)) (λ b. rw (e, q, d, c, z, b) (bads Torn)) (λ b. rw (e, q, d, c, z, b) (goods (ltb-false (length s) (span s) b) q)))))
 
 pub value_length : (s : List ℕ) → span s ≤ length s → length (value_in s) + 3 ≡ span s
 value_length s h =

@@ -1,6 +1,9 @@
 -- Handlers: both readers find the same fault, or the draft has an entry for each handler of the tree and no other in
 -- the behaviour's row. By induction on the bound of the tree reader, with an invariant of the draft; either bound
 -- suffices, since a field has three bytes.
+use Rattle.std.specs.Prelude.{IsErrAnd}
+use Rattle.std.proofs.lemmas.Result.{err_from_is_err_and}
+use Rattle.spec_language.specs.Numbers.{refusal_number}
 use Rattle.lib_base.proofs.Prelude.{ℕ, ◌≤◌, ◌<◌, ◌+◌, ◌-◌, suc, zero, ◌*◌, ◌≡◌, refl, ◌∙◌, sym, subst, false, not, ◌≢◌}
 use Rattle.lib_base.proofs.Prelude.{List, [], ◌∷◌, ◌++◌, append_assoc, append-nil, length, get_or, take, drop, set}
 use Rattle.lib_base.proofs.Prelude.{length-drop, drop-drop, sets, eqb, ltb, leb, eqb·suc-zero, ne_eqb, eqb-true, lt-ltb}
@@ -14,8 +17,7 @@ use Rattle.spec_language.specs.Code.{size_of}
 use Rattle.spec_language.specs.Refusals.{off_scale, doubled}
 use Rattle.spec_language.specs.Reading.{Got, bad, got, then, filling, byte_in, read_all, expr_at, handles, phase_of, handler_in}
 use Rattle.spec_grammar.proofs.Handlers.{stops}
-use Rattle.front_field.specs.Expression.{Out, out, rest_from, go_on_after}
-use Rattle.front_field.specs.declared.Read.TheVariants.{Done, Fault}
+use Rattle.front_field.specs.Expression.{done, Out, out, rest_from, go_on_after}
 use Rattle.draft_form.specs.Draft.{draft_length, nodes, handler_nodes, packed_entry}
 use Rattle.front_behaviours.specs.Handler.{slot, handler_at, handler_from, handler_of, handlers_of}
 use Rattle.front_correct.proofs.Fields.{value_in, span, one_tag, same_field, value_length, rest_drop, ends_test}
@@ -35,10 +37,10 @@ phase_kind_law (suc k) h = omega arith
 
 -- what both readers say of a handler of behaviour i that takes `size` bytes at the front of s, after the handlers hs
 abbrev pub SameHandler : ℕ → List Clause → ℕ → List ℕ → ℕ → List ℕ → ℕ → Got Clause → Out → Type 0
-SameHandler events hs i s size d n (bad k) o = o.0 ≡ Fault k
+SameHandler events hs i s size d n (bad k) o = IsErrAnd o.0 (λ r. refusal_number r ≡ k)
 SameHandler events hs i s size d n (got (clause e φ x) r) o =
     (e < events) × (handles e hs ≡ false) × (r ≡ drop size s) × (size ≤ length s) × (size_of (raw x) * 4 ≤ size)
-    × (o ≡ out (Done size (n + size_of (raw x))) (set (sets d n (nodes (raw x))) (slot i e) (packed_entry (phase_kind φ) n (size_of (raw x)))))
+    × (o ≡ out (done size (n + size_of (raw x))) (set (sets d n (nodes (raw x))) (slot i e) (packed_entry (phase_kind φ) n (size_of (raw x)))))
 
 module _ (events : ℕ) (hs : List Clause) (i : ℕ) (d : List ℕ) (n : ℕ)
     (test : (e : ℕ) → e < events → eqb (get_or d (slot i e) 0) 0 ≡ not (handles e hs)) where
@@ -141,8 +143,8 @@ module _ (i w : ℕ) (d₀ : List ℕ) (n₀ : ℕ) (low : i < 64) where
 
 -- what both readers say of handlers in v: the place where they end; `most` bounds four times the nodes
 abbrev pub SameHandlers : ℕ → ℕ → List ℕ → ℕ → List ℕ → ℕ → Got (List Clause) → Out → Type 0
-SameHandlers i w d₀ n₀ v most (bad k) o = o.0 ≡ Fault k
-SameHandlers i w d₀ n₀ v most (got hs r) o = (at : ℕ) × (r ≡ drop at v) × (m : ℕ) × (o.0 ≡ Done at m) × (m * 4 ≤ most) × Turn i w d₀ n₀ hs o.1 m
+SameHandlers i w d₀ n₀ v most (bad k) o = IsErrAnd o.0 (λ r. refusal_number r ≡ k)
+SameHandlers i w d₀ n₀ v most (got hs r) o = (at : ℕ) × (r ≡ drop at v) × (m : ℕ) × (o.0 ≡ done at m) × (m * 4 ≤ most) × Turn i w d₀ n₀ hs o.1 m
 
 module _ (events i w : ℕ) (d₀ : List ℕ) (n₀ : ℕ) (v : List ℕ) (most : ℕ) (few : events ≤ 32) (low : i < 64) (small : most ≤ 8192) where
   abbrev Both : Got (List Clause) → Out → Type 0
@@ -152,7 +154,7 @@ module _ (events i w : ℕ) (d₀ : List ℕ) (n₀ : ℕ) (v : List ℕ) (most 
   abbrev Due : ℕ → List Clause → List ℕ → ℕ → Type 0
   Due at hs d n = (at ≤ length v) × (n * 4 + (length v - at) ≤ most) × Turn i w d₀ n₀ hs d n
 
-  ended : (at : ℕ) (hs : List Clause) (d : List ℕ) (n : ℕ) → Due at hs d n → Both (got hs (drop at v)) (out (Done at n) d)
+  ended : (at : ℕ) (hs : List Clause) (d : List ℕ) (n : ℕ) → Due at hs d n → Both (got hs (drop at v)) (out (done at n) d)
   ended at hs d n t = (at, refl, n, refl, omega arith, t.2)
 
   turn_test : (hs : List Clause) (d : List ℕ) (n : ℕ) → Turn i w d₀ n₀ hs d n → (e : ℕ) → e < events → eqb (get_or d (slot i e) 0) 0 ≡ not (handles e hs)
@@ -165,7 +167,7 @@ module _ (events i w : ℕ) (d₀ : List ℕ) (n₀ : ℕ) (v : List ℕ) (most 
       → Both (read_all stops (handler_in events) k hs' (drop at' v)) (handlers_of l v at' events i d' n'))
       → (g : Got Clause) (o : Out) → SameHandler events hs i (drop at v) (span (drop at v)) d n g o
       → Both (then g (λ h r. read_all stops (handler_in events) k (hs ++ (h ∷ [])) r)) (go_on_after o.0 o.1 (λ size m. handlers_of l v (at + size) events i o.1 m))
-  next k l at hs d n t ih (bad j) o e = rw e refl
+  next k l at hs d n t ih (bad j) o e = let p = err_from_is_err_and o.0 e in rw p.1 p.2
   next k l at hs d n t ih (got (clause e φ x) r) o h =
       let q : length (drop at v) ≡ length v - at = length-drop at v in
       let p : r ≡ drop (at + span (drop at v)) v = h.2 ∙ drop-drop (span (drop at v)) at v in

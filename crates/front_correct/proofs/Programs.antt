@@ -1,6 +1,11 @@
 -- Sheets: both readers find the same fault, or the draft is that of the tree reader's sheet, its parameters not filled
 -- in. By induction on the bounds, of behaviours and of events; either reader's bound suffices, since a field has three
 -- bytes. Where no tag 01 follows, the reader by positions looks at a behaviour's field twice, and finds the same.
+use Rattle.std.specs.Prelude.{Ok, Err, IsErrAnd}
+use Rattle.std.proofs.lemmas.Result.{err_from_is_err_and}
+use Rattle.spec_language.specs.Numbers.{refusal_number}
+use Rattle.spec_language.specs.declared.refusals.Refusal.{Refusal}
+use Rattle.spec_language.specs.declared.refusals.Refusal.TheVariants.{Torn, WrongTag}
 use Rattle.lib_base.proofs.Prelude.{ℕ, ◌≤◌, ◌<◌, ◌+◌, ◌-◌, suc, zero, ◌*◌, ◌≡◌, refl, ◌∙◌, sym, subst, true, false}
 use Rattle.lib_base.proofs.Prelude.{◌||◌, false≢true, true≢false, ◌≢◌, some, none, List, [], ◌∷◌, ◌++◌, length, get_or}
 use Rattle.lib_base.proofs.Prelude.{drop, set, length-append, length-drop, drop_of_length-le, drop-drop, eqb, ltb, leb}
@@ -15,12 +20,10 @@ use Rattle.spec_language.specs.Reading.{Got, bad, got, then, filling, read_all, 
 use Rattle.spec_grammar.proofs.Programs.{at_end, no_event}
 use Rattle.sheet_field.specs.Field.{stated, field_of}
 use Rattle.front_field.specs.Expression.{Out}
-use Rattle.sheet_field.specs.declared.Field.TheVariants.{Value, Refused}
 use Rattle.draft_form.specs.Draft.{draft_length}
 use Rattle.front_rows.specs.Cells.{least_of, most_of, cells_at}
-use Rattle.front_sheet.specs.declared.Draft.TheVariants.{Ready, Broken}
 use Rattle.front_behaviours.specs.Behaviour.{behaviour_of}
-use Rattle.front_sheet.specs.Whole.{EventRead, sender, signal_at, priority_at, event_from, read_event, event_next, read_events, Finish, finished, proceed, behaviours_of, read_on}
+use Rattle.front_sheet.specs.Whole.{ready, EventRead, sender, signal_at, priority_at, event_from, read_event, event_next, read_events, Finish, finished, EventsOut, after_events, proceed, behaviours_of, read_on}
 use Rattle.front_correct.proofs.Fields.{value_in, span, by_either, between, same_field, value_length, rest_drop, end_test}
 use Rattle.front_correct.proofs.Behaviours.{GrownBy, SameBehaviour, same_behaviour}
 use Rattle.front_correct.proofs.Spread.{length_spread}
@@ -28,9 +31,9 @@ use Rattle.front_correct.proofs.Sofar.{Sofar, grow, declare, nothing_yet}
 
 -- what both readers say of a sheet
 abbrev pub SameProgram : Got Sheet → Finish → Type 0
-SameProgram (bad k) o = o.0 ≡ Broken k
+SameProgram (bad k) o = IsErrAnd o.0 (λ r. refusal_number r ≡ k)
 SameProgram (got p r) o =
-    (r ≡ []) × (n : ℕ) × (o.0 ≡ Ready (length p.signals) (cell_count p.entries) n) × (n ≤ 2048) × Sofar p.signals p.entries o.1 n
+    (r ≡ []) × (n : ℕ) × (o.0 ≡ ready (length p.signals) (cell_count p.entries) n) × (n ≤ 2048) × Sofar p.signals p.entries o.1 n
 
 count_snoc : (bs : List Entry) (x : Entry) → cell_count (bs ++ (x ∷ [])) ≡ cell_count bs + cells x.item
 unfolding cell_count
@@ -48,7 +51,7 @@ module _ (s : List ℕ) (rs : List Signal) where
   made g = then g (λ bs over. got (sheet rs bs) over)
 
   ended : (at : ℕ) (bs : List Entry) (d : List ℕ) (n : ℕ) → Due at bs d n → at ≡ length s
-      → SameProgram (got (sheet rs bs) (drop at s)) (finished (Ready (length rs) (cell_count bs) n) d)
+      → SameProgram (got (sheet rs bs) (drop at s)) (finished (ready (length rs) (cell_count bs) n) d)
   ended at bs d n t e = (drop_of_length-le s {i = at} (omega arith), n, refl, omega arith, t.2)
 
   -- one is read
@@ -57,7 +60,7 @@ module _ (s : List ℕ) (rs : List Signal) where
       → SameProgram (made (F b (drop at' s))) (behaviours_of l s at' (length rs) (cell_count bs + cells b.item) d' n'))
       → (g : Got Entry) (o : Out) → SameBehaviour (cell_count bs) (cells_at (drop at s)) (drop at s) (span (drop at s)) d n g o
       → SameProgram (made (then g F)) (proceed o.0 o.1 (λ size m. behaviours_of l s (at + size) (length rs) (cell_count bs + cells_at (drop at s)) o.1 m))
-  next l at bs d n F t ih (bad k) o e = rw e refl
+  next l at bs d n F t ih (bad k) o e = let p = err_from_is_err_and o.0 e in rw p.1 p.2
   next l at bs d n F t ih (got b r) o h =
       let q : length (drop at s) ≡ length s - at = length-drop at s in
       let p : r ≡ drop (at + span (drop at s)) s = h.0 ∙ drop-drop (span (drop at s)) at s in
@@ -87,13 +90,13 @@ module _ (s : List ℕ) (rs : List Signal) where
 -- ---- where the events end: at the end, or before a field with another tag
 
 -- what a field is by positions
-by_field : {C : Type 0} (u : List ℕ) (lo hi : ℕ) → ((k : ℕ) → field_of u lo hi ≡ Refused k → C) → (field_of u lo hi ≡ Value (get_or u 0 0) (stated u) → C) → C
+by_field : {C : Type 0} (u : List ℕ) (lo hi : ℕ) → ((r : Refusal) → field_of u lo hi ≡ Err r → C) → (field_of u lo hi ≡ Ok (record { tag = get_or u 0 0; size = stated u }) → C) → C
 unfolding field_of
 by_field u lo hi r v =
-    split (ltb (length u) 3) (λ e. r 4 (rw e))
-    (λ e. split (ltb (get_or u 0 0) lo) (λ d. r 5 (rw (e, d)))
-    (λ d. split (ltb hi (get_or u 0 0)) (λ c. r 5 (rw (e, d, c)))
-    (λ c. split (ltb (length u - 3) (stated u)) (λ b. r 4 (rw (e, d, c, b))) (λ b. v (rw (e, d, c, b))))))
+    split (ltb (length u) 3) (λ e. r Torn (rw e))
+    (λ e. split (ltb (get_or u 0 0) lo) (λ d. r WrongTag (rw (e, d)))
+    (λ d. split (ltb hi (get_or u 0 0)) (λ c. r WrongTag (rw (e, d, c)))
+    (λ c. split (ltb (length u - 3) (stated u)) (λ b. r Torn (rw (e, d, c, b))) (λ b. v (rw (e, d, c, b))))))
 
 -- without a tag 01 at the front, it is the same where an event could stand and where none could
 below : (t : ℕ) → t ≢ 1 → ltb t 1 ≡ ltb t 2
@@ -116,16 +119,16 @@ event_due u h = rw h (split (eqb (length u) 0) (λ e. rw e) (λ e. rw e))
 
 module _ (s : List ℕ) (small : length s ≤ 8192) where
   -- the behaviours after them
-  abbrev go_on : Out → Finish
-  go_on o = proceed o.0 o.1 (λ at e. behaviours_of (length s) s at e 0 o.1 0)
+  abbrev go_on : EventsOut → Finish
+  go_on o = after_events o.0 o.1 (λ at e. behaviours_of (length s) s at e 0 o.1 0)
 
-  broken_first : (b at e : ℕ) (d : List ℕ) (k : ℕ) → 0 < b → at < length s → field_of (drop at s) (least_of (drop at s) 2) (most_of (drop at s)) ≡ Refused k
-      → behaviours_of b s at e 0 d 0 ≡ finished (Broken k) d
+  broken_first : (b at e : ℕ) (d : List ℕ) (k : Refusal) → 0 < b → at < length s → field_of (drop at s) (least_of (drop at s) 2) (most_of (drop at s)) ≡ Err k
+      → behaviours_of b s at e 0 d 0 ≡ finished (Err k) d
   unfolding behaviours_of behaviour_of
   broken_first zero at e d k z lt q = absurd (omega arith)
   broken_first (suc b) at e d k z lt q = rw (ne_eqb at (length s) (omega arith), rest_drop at s, q)
 
-  looked : (at e : ℕ) (d : List ℕ) (more : List ℕ → ℕ → Out) → at < length s → get_or (drop at s) 0 0 ≢ 1
+  looked : (at e : ℕ) (d : List ℕ) (more : List ℕ → ℕ → EventsOut) → at < length s → get_or (drop at s) 0 0 ≢ 1
       → (let o : EventRead = read_event (drop at s) e d in go_on (event_next o.0 o.1 at e (more o.1))) ≡ behaviours_of (length s) s at e 0 d 0
   unfolding read_event priority_at
   looked at e d more lt h =

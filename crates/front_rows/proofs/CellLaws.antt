@@ -1,7 +1,8 @@
 -- What copying a cell leaves: the cell's words are those of the first, all others as they were. By the laws of one
 -- store after another.
-use Rattle.lib_base.proofs.Prelude.{ℕ, ◌≤◌, ◌<◌, ◌+◌, suc, zero, ◌*◌, ◌≡◌, refl, ◌∙◌, ◌≢◌, by_cases, List, length, get_or}
-use Rattle.lib_base.proofs.Prelude.{take, length-set, get_or-set_other, get_or-set_same, take-set-le, ℕ_discrete, arith}
+use Rattle.lib_base.proofs.Prelude.{ℕ, ◌≤◌, ◌<◌, ◌+◌, suc, zero, ◌*◌, ◌≡◌, refl, ◌∙◌, sym, ◌≢◌, by_cases, List, length, get_or}
+use Rattle.lib_base.proofs.Prelude.{take, drop, length-drop, get_or-drop, length-set, get_or-set_other, get_or-set_same, take-set-le, ℕ_discrete, arith}
+use Rattle.std.proofs.Math.Seq.{paste, paste-zero, paste-suc}
 use Rattle.draft_form.specs.Draft.{draft_length}
 use Rattle.front_rows.specs.Cells.{entries_copied, start_copied, viewer_copied, cell_copied}
 
@@ -23,6 +24,18 @@ unfolding entries_copied
 entries_other d i k zero j h = refl
 entries_other d i k (suc n) j h =
     get_or-set_other (entries_copied d i k n) (2048 + k * 32 + n) j _ 0 (h n (omega arith)) ∙ entries_other d i k n j (λ e b. h e (omega arith))
+
+-- so they are a copy at once
+pub entries_pasted : (d : List ℕ) (i k n : ℕ) → length d ≡ draft_length → i < 64 → k < 64 → n ≤ 32
+    → paste d (2048 + k * 32) (drop (2048 + i * 32) d) n ≡ entries_copied d i k n
+unfolding entries_copied
+entries_pasted d i k zero l a b h = sym (paste-zero d (2048 + k * 32) (drop (2048 + i * 32) d))
+entries_pasted d i k (suc n) l a b h =
+    let s : List ℕ = drop (2048 + i * 32) d in
+    let q : get_or (entries_copied d i k n) (2048 + i * 32 + n) 0 ≡ get_or s n 0 =
+    entries_other d i k n (2048 + i * 32 + n) (λ e g. omega arith) ∙ sym (get_or-drop (2048 + i * 32) d n 0) in
+    rw (q, ← entries_pasted d i k n l a b (omega arith))
+    (sym (paste-suc d (2048 + k * 32) s n 0 (omega arith) (rw (length-drop (2048 + i * 32) d) (omega arith))))
 
 entries_same : (d : List ℕ) (i k n e : ℕ) → length d ≡ draft_length → i < 64 → k < 64 → i ≢ k → n ≤ 32 → e < n
     → get_or (entries_copied d i k n) (2048 + k * 32 + e) 0 ≡ get_or d (2048 + i * 32 + e) 0

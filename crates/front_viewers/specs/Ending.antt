@@ -2,15 +2,11 @@
 -- 02, M-107: "A behaviour may end with a field 08 of length 1, saying likewise who may see it. Past a passive's
 -- expression only tag 08 begins a field, other bytes being 6, as are all past an 08. Where either is missing, everybody
 -- may."
-use Rattle.std.specs.Prelude.{ℕ, ◌+◌, ◌≡◌, List, length, get_or, set, eqb}
+use Rattle.std.specs.Prelude.{Ok, Err, ℕ, ◌+◌, ◌≡◌, List, length, get_or, set, eqb}
 use Rattle.lib_base.specs.Basics.{pick}
-use Rattle.spec_language.specs.Refusals.{wrong_length}
-use Rattle.sheet_field.specs.Field.{field_of, part_of}
-use Rattle.front_field.specs.Expression.{Out, out}
-use Rattle.sheet_field.specs.declared.Field.{Field}
-use Rattle.sheet_field.specs.declared.Field.TheVariants.{Value, Refused}
-use Rattle.front_field.specs.declared.Read.{Read}
-use Rattle.front_field.specs.declared.Read.TheVariants.{Done, Fault}
+use Rattle.spec_language.specs.declared.refusals.Refusal.TheVariants.{WrongLength}
+use Rattle.sheet_field.specs.Field.{Field, field_of, part_of}
+use Rattle.front_field.specs.Expression.{DoneRead, done, Out, out}
 
 -- where the draft has who may see behaviour i
 abbrev pub viewer : ℕ → ℕ
@@ -21,12 +17,12 @@ viewer i = 4256 + i
 unfoldable pub viewer_at : List ℕ → ℕ → ℕ → List ℕ → ℕ → ℕ → Out
 viewer_at v left i d all n =
     pick (eqb (length v) 1)
-    (pick (eqb left 4) (out (Done all n) (set d (viewer i) (get_or v 0 0))) (out (Fault wrong_length) d))
-    (out (Fault wrong_length) d)
+    (pick (eqb left 4) (out (done all n) (set d (viewer i) (get_or v 0 0))) (out (Err WrongLength) d))
+    (out (Err WrongLength) d)
 
 abbrev pub viewer_from : Field → List ℕ → ℕ → ℕ → List ℕ → ℕ → ℕ → Out
-viewer_from (Refused k) v left i d all n = out (Fault k) d
-viewer_from (Value t size) v left i d all n = viewer_at v left i d all n
+viewer_from (Err r) v left i d all n = out (Err r) d
+viewer_from (Ok h) v left i d all n = viewer_at v left i d all n
 
 -- a field 08 at the front of s
 unfoldable pub viewer_of : List ℕ → ℕ → List ℕ → ℕ → ℕ → Out
@@ -35,10 +31,10 @@ viewer_of s i d all n = viewer_from (field_of s 8 8) (part_of s (field_of s 8 8)
 -- what is left of behaviour i's value after its own part
 unfoldable pub ending_of : List ℕ → ℕ → List ℕ → ℕ → ℕ → Out
 ending_of s i d all n =
-    pick (eqb (length s) 0) (out (Done all n) (set d (viewer i) 255))
-    (pick (eqb (get_or s 0 0) 8) (viewer_of s i d all n) (out (Fault wrong_length) d))
+    pick (eqb (length s) 0) (out (done all n) (set d (viewer i) 255))
+    (pick (eqb (get_or s 0 0) 8) (viewer_of s i d all n) (out (Err WrongLength) d))
 
 -- that a reading is done with the numbers given: what is promised beside the equation
-abbrev pub EndIn : ℕ → ℕ → Read → Type 0
-EndIn all n (Done size next) = (size ≡ all) × (next ≡ n)
-EndIn all n (Fault k) = Unit {0}
+abbrev pub EndIn : ℕ → ℕ → DoneRead → Type 0
+EndIn all n (Ok r) = (r.size ≡ all) × (r.next ≡ n)
+EndIn all n (Err r) = Unit {0}

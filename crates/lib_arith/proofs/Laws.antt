@@ -1,16 +1,16 @@
 -- The exact sum, difference, product, quotient and order of two words, in natural numbers: by the cases of the two
 -- signs (`View`), each by `omega`.
-use Rattle.lib_base.proofs.Prelude.{ℕ, ◌≤◌, ◌<◌, ◌+◌, ◌-◌, suc, zero, ◌*◌, ◌%◌, ◌/◌, ◌^◌, ◌≡◌, refl, ◌∙◌, sym, ap, true}
+use Rattle.lib_base.proofs.Prelude.{ℕ, ◌≤◌, ◌<◌, ◌+◌, ◌-◌, suc, zero, ◌*◌, ◌%◌, ◌^◌, ◌≡◌, refl, ◌∙◌, sym, ap, true}
 use Rattle.lib_base.proofs.Prelude.{false, Bool, ◌||◌, ◌&&◌, not, eqb, ltb, ne_eqb, le-ltb, lt-ltb, eq-eqb, ltb-false}
 use Rattle.lib_base.proofs.Prelude.{ltb-true, arith}
-use Rattle.std.proofs.Common.{cond, ℤ, pos, negsuc, ◌+ℤ◌, ◌-ℤ◌, ◌*ℤ◌, neg_ℤ, div-le_self}
+use Rattle.std.proofs.Common.{cond, ℤ, pos, negsuc, ◌+ℤ◌, ◌-ℤ◌, ◌*ℤ◌, neg_ℤ}
 use mathlib.Core.Bool.{not-not}
 use lib.IntN.{sub_ℕ}
 use lib.Signed.{lt_z}
 use Rattle.lib_base.specs.Basics.{pick}
 use Rattle.lib_arith.specs.Exact.{signed, wrapped, beyond}
 use Rattle.lib_arith.specs.Marked.{reported}
-use Rattle.lib_arith.specs.Functions.{ceiling, floor_z, is_true, truth}
+use Rattle.lib_arith.specs.Functions.{is_true, truth}
 use Rattle.lib_arith.proofs.ArithLaws.{wrapped_signed, is_true_signed, word_within}
 
 -- a word below 2^31 is itself, and another -(x + 1), with x + a = 2^32 - 1
@@ -24,19 +24,6 @@ view a h = go (ltb a (2 ^ 31)) refl
     go : (t : Bool) → ltb a (2 ^ 31) ≡ t → View a (pick t (pos a) (negsuc (2 ^ 32 - 1 - a)))
     go true e = low (ltb-true a (2 ^ 31) e)
     go false e = high (2 ^ 32 - 1 - a) (omega arith) (ltb-false a (2 ^ 31) e)
-
--- the numbers in order, as a count from the least one on
-pub counted : {a : ℕ} {z : ℤ} → View a z → (r : ℕ) → r ≡ (a + 2 ^ 31) % 2 ^ 32 → sub_ℕ r 2147483648 ≡ z
-counted {a} (low p) r e = go (ltb r 2147483648) refl
-  where
-    go : (t : Bool) → ltb r 2147483648 ≡ t → cond t (negsuc (2147483648 - suc r)) (pos (r - 2147483648)) ≡ pos a
-    go true f = absurd (omega (arith, ltb-true r 2147483648 f))
-    go false f = let h : r - 2147483648 ≡ a = omega arith in rw h
-counted (high x g n) r e = go (ltb r 2147483648) refl
-  where
-    go : (t : Bool) → ltb r 2147483648 ≡ t → cond t (negsuc (2147483648 - suc r)) (pos (r - 2147483648)) ≡ negsuc x
-    go true f = let h : 2147483648 - suc r ≡ x = omega arith in rw h
-    go false f = absurd (omega (arith, ltb-false r 2147483648 f))
 
 difference : (a b r : ℕ) → r < 2 ^ 32 → (r + b) % 2 ^ 32 ≡ a % 2 ^ 32 → r ≡ wrapped (sub_ℕ a b)
 difference a b r h e = go (ltb a b) refl
@@ -75,38 +62,6 @@ product (low p) (low q) r e = e
 product {a} {b} (low p) (high y g _) r e = negative (a * suc y) r (omega arith) (omega (arith, ap (λ (k : ℕ). a * k) g))
 product {a} {b} (high x f _) (low q) r e = negative (suc x * b) r (omega arith) (omega (arith, ap (λ (k : ℕ). k * b) f))
 product {a} {b} (high x f _) (high y g _) r e = e ∙ same_rest (a * b) (suc x * suc y) (y + 1) a (opposite a b x y f g)
-
-small : (n : ℕ) {a : ℕ} → n ≤ a → a < 2 ^ 32 → n ≡ wrapped (pos n)
-small n h k = omega arith
-
--- the quotient of the magnitudes, rounded up for different signs
-pub same_low : {a b : ℕ} {z w : ℤ} → View a z → View b w → a < 2 ^ 31 → b < 2 ^ 31 → a / b ≡ wrapped (floor_z z w)
-same_low {a} {b} (low p) (low q) h k = small (a / b) (div-le_self a b) (omega arith)
-same_low (low p) (high y g n) h k = absurd (omega arith)
-same_low (high x f n) w h k = absurd (omega arith)
-
-pub low_high : {a b : ℕ} {z w : ℤ} → View a z → View b w → a < 2 ^ 31 → 2 ^ 31 ≤ b → (r : ℕ) → r < 2 ^ 32 → (r + (a + (4294967295 - b)) / (4294967295 - b + 1)) % 2 ^ 32 ≡ 0 → r ≡ wrapped (floor_z z w)
-low_high (low p) (low q) h k r l e = absurd (omega arith)
-low_high {a} {b} (low p) (high y g n) h k r l e =
-    let d : 4294967295 - b + 1 ≡ suc y = omega arith in
-    let d' : 4294967295 - b ≡ suc y - 1 = omega arith in
-    negative (ceiling a (suc y)) r l (rw (d, d') at e)
-low_high (high x f n) w h k r l e = absurd (omega arith)
-
-pub high_low : {a b : ℕ} {z w : ℤ} → View a z → View b w → 2 ^ 31 ≤ a → 0 < b → b < 2 ^ 31 → (r : ℕ) → r < 2 ^ 32 → (r + (4294967295 - a + b) / b) % 2 ^ 32 ≡ 0 → r ≡ wrapped (floor_z z w)
-high_low (low p) w h _ k r l e = absurd (omega arith)
-high_low {a} {b} (high x f n) (low q) h i k r l e =
-    let d : 4294967295 - a + b ≡ suc x + (b - 1) = omega arith in
-    negative (ceiling (suc x) b) r l (rw d at e)
-high_low (high x f n) (high y g o) h _ k r l e = absurd (omega arith)
-
-pub same_high : {a b : ℕ} {z w : ℤ} → View a z → View b w → 2 ^ 31 ≤ a → 2 ^ 31 ≤ b → (4294967295 - a + 1) / (4294967295 - b + 1) ≡ wrapped (floor_z z w)
-same_high (low p) w h k = absurd (omega arith)
-same_high (high x f n) (low q) h k = absurd (omega arith)
-same_high {a} {b} (high x f n) (high y g o) h k =
-    let d : 4294967295 - a + 1 ≡ suc x = omega arith in
-    let d' : 4294967295 - b + 1 ≡ suc y = omega arith in
-    rw (d, d') (small (suc x / suc y) (div-le_self (suc x) (suc y)) (omega arith))
 
 turned : (a b x y : ℕ) → x + a ≡ y + b → ltb a b ≡ ltb y x
 turned a b x y e = go (ltb a b) refl

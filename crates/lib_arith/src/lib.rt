@@ -12,30 +12,29 @@ pub const NEGATIVE: u32 = 2147483648;
 // 2^32 - 1: the word of -1. The magnitude of a negative word w is MINUS_ONE - w + 1.
 pub const MINUS_ONE: u32 = 4294967295;
 
-// The whole number that a word stands for, in 64 bits: the words from that of the least number on are counted from 0,
-// and the count brought down by 2^31. The compiler takes this for what it is, one instruction.
+// The whole number that a word stands for, in 64 bits.
 pub fn whole(a: u32) -> i64
     ensures { result ≡ signed a }
 {
-    (std::num::wrapping_add_u32(a, NEGATIVE) as i64) - (NEGATIVE as i64)
+    i64::from(a.cast_signed())
 }
 
 pub fn add(a: u32, b: u32) -> u32
     ensures { result ≡ wrapped (signed a +ℤ signed b) }
 {
-    std::num::wrapping_add_u32(a, b)
+    a.wrapping_add(b)
 }
 
 pub fn subtract(a: u32, b: u32) -> u32
     ensures { result ≡ wrapped (signed a -ℤ signed b) }
 {
-    std::num::wrapping_sub_u32(a, b)
+    a.wrapping_sub(b)
 }
 
 pub fn multiply(a: u32, b: u32) -> u32
     ensures { result ≡ wrapped (signed a *ℤ signed b) }
 {
-    (((a as u64) * (b as u64)) % lib_word::WORD_VALUES) as u32
+    a.wrapping_mul(b)
 }
 
 // M-102: a quotient with a fraction goes to the next whole number below; by zero it gives 0, and the least number by -1
@@ -51,10 +50,10 @@ pub fn divide(a: u32, b: u32) -> u32
         if b < NEGATIVE {
             return a / b;
         }
-        return std::num::wrapping_sub_u32(0, (a + (MINUS_ONE - b)) / (MINUS_ONE - b + 1));
+        return 0u32.wrapping_sub((a + (MINUS_ONE - b)) / (MINUS_ONE - b + 1));
     }
     if b < NEGATIVE {
-        return std::num::wrapping_sub_u32(0, (MINUS_ONE - a + b) / b);
+        return 0u32.wrapping_sub((MINUS_ONE - a + b) / b);
     }
     (MINUS_ONE - a + 1) / (MINUS_ONE - b + 1)
 }
@@ -63,5 +62,5 @@ pub fn divide(a: u32, b: u32) -> u32
 pub fn below(a: u32, b: u32) -> bool
     ensures { result ≡ int_lt (signed a) (signed b) }
 {
-    whole(a) < whole(b)
+    a.cast_signed() < b.cast_signed()
 }

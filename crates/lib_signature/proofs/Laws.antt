@@ -1,7 +1,7 @@
 -- What holds of every row of the signature, by a check of each, and of the numbers beyond.
-use Rattle.lib_base.proofs.Prelude.{ℕ, ◌≤◌, ◌<◌, suc, ◌≡◌, refl, ap, true, false, Bool, false≢true, not, ◌≢◌, List, []}
-use Rattle.lib_base.proofs.Prelude.{◌∷◌, get_or, List·getD-eq-default, eqb, ltb, leb, ne_eqb, eqb-true, lt-ltb, eqb-false}
-use Rattle.lib_base.proofs.Prelude.{ltb-true, leb-false, leb-true, arith}
+use Rattle.lib_base.proofs.Prelude.{ℕ, ◌≤◌, ◌<◌, suc, ◌≡◌, refl, ap, true, false, Bool, false≢true, not, ◌≢◌, []}
+use Rattle.lib_base.proofs.Prelude.{◌∷◌, List·getD-eq-default, eqb, ltb, leb, ne_eqb, eqb-true, lt-ltb, eqb-false}
+use Rattle.lib_base.proofs.Prelude.{ltb-true, ltb-false, leb-false, leb-true, le-ltb, sym, arith}
 use Rattle.lib_base.specs.Basics.{pick}
 use Rattle.lib_base.proofs.Tools.{split, past, through, all_below, each_below}
 use Rattle.lib_signature.specs.Signature.{function, functions, its_level, function_at, level, arity, last}
@@ -75,18 +75,32 @@ two_level f h l e =
     split (ltb 0 (level f)) (λ d. ltb-true 0 (level f) d)
     (λ d. absurd (false≢true (rw (d, ne_eqb f 0 (omega arith), e) at (level_checked f l).1)))
 
--- ---- the code's table
+-- ---- the code's arms
 
-unfoldable pub levels : List ℕ
-levels = 0 ∷ 6 ∷ 5 ∷ 0 ∷ 2 ∷ 2 ∷ 1 ∷ 1 ∷ 3 ∷ 3 ∷ 3 ∷ 3 ∷ 4 ∷ 4 ∷ 0 ∷ []
+-- the functions of a stretch have one level
+unfoldable pub level_at : ℕ → ℕ → ℕ → ℕ → Bool
+level_at a b l f = pick (ltb f a) true (pick (ltb b f) true (eqb l (level f)))
 
-level_is : ℕ → Bool
-level_is f = eqb (get_or levels f 0) (level f)
+pub level_in : (a b l f : ℕ) → a ≤ f → f ≤ b → f ≤ last → all_below (suc last) (level_at a b l) ≡ true → l ≡ level f
+unfolding level_at
+level_in a b l f p q h e =
+    eqb-true l (level f) (rw (le-ltb f a p, le-ltb b f q) at (each_below (suc last) (level_at a b l) e f (omega arith)))
 
-levels_are : all_below (suc last) level_is ≡ true
-unfolding all_below level_is levels level
-levels_are = refl
+-- and the others have none
+level_none : ℕ → Bool
+level_none f =
+    pick (eqb f 1) true (pick (eqb f 2) true (pick (ltb f 4) (eqb 0 (level f)) (pick (ltb 13 f) (eqb 0 (level f)) true)))
 
-pub level_is_law : (f : ℕ) → f ≤ last → get_or levels f 0 ≡ level f
-unfolding level_is
-level_is_law f h = eqb-true (get_or levels f 0) (level f) (each_below (suc last) level_is levels_are f (omega arith))
+levels_none : all_below (suc last) level_none ≡ true
+unfolding all_below level_none level
+levels_none = refl
+
+pub level_out : (f : ℕ) → f ≢ 1 → f ≢ 2 → (4 ≤ f → 13 < f) → 0 ≡ level f
+unfolding level_none
+level_out f p q h =
+    split (leb f last)
+    (λ e.
+    let z = rw (ne_eqb f 1 p, ne_eqb f 2 q) at (each_below (suc last) level_none levels_none f (omega (arith, leb-true f last e))) in
+    split (ltb f 4) (λ b. eqb-true 0 (level f) (rw b at z))
+    (λ b. eqb-true 0 (level f) (rw (b, lt-ltb 13 f (h (ltb-false f 4 b))) at z)))
+    (λ e. sym (level_beyond f (leb-false f last e)))

@@ -8,29 +8,31 @@ ghost use Rattle.lib_signature.specs.Signature.{arity, level};
 pub mod functions;
 pub mod levels;
 
-// The level of each function in a row, from number 0 on, which is no function's.
-const LEVELS: [u8; 15] = *b"\x00\x06\x05\x00\x02\x02\x01\x01\x03\x03\x03\x03\x04\x04\x00";
-
 // How many arguments the function with the number f needs.
+#[tactic(auto, using(lib_base::proofs::Pick::branches), unfolding(crate::specs::Signature::arity))]
 pub fn arity_of(f: u8) -> usize
     ensures value { result ≡ arity f }
     ensures upper_bound { result ≤ 3 }
 {
-    if f == functions::NOT {
-        return 1;
+    match f {
+        functions::NOT => 1,
+        functions::IF => 3,
+        _ => 2,
     }
-    if f == functions::IF {
-        return 3;
-    }
-    2
 }
 
 // The level of a two-sided operator by its number, 1 for the tightest; 0 for another number.
 pub fn level_of(f: u8) -> u64
     ensures { result ≡ level f }
 {
-    if functions::LAST < f {
-        return 0;
+    match f {
+        functions::OR => levels::DISJUNCTION,
+        functions::AND => levels::CONJUNCTION,
+        functions::EQUAL | functions::UNEQUAL => levels::EQUALITY,
+        functions::ABOVE | functions::AT_LEAST | functions::BELOW | functions::AT_MOST =>
+            levels::ORDERING,
+        functions::ADD | functions::SUBTRACT => levels::SUM,
+        functions::MULTIPLY | functions::DIVIDE => levels::PRODUCT,
+        _ => 0,
     }
-    LEVELS[f as usize] as u64
 }

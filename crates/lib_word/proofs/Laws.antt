@@ -113,8 +113,3 @@ unfolding words
 words_get l a zero i h = absurd (omega arith)
 words_get l a (suc n) zero h = let z : a + 0 ≡ a = omega arith in rw z
 words_get l a (suc n) (suc i) h = let z : a + suc i ≡ suc a + i = omega arith in rw z (words_get l (suc a) n i (omega arith))
-
--- halves
-pub length_put_half : (l : List ℕ) (i h : ℕ) → length (put_half l i h) ≡ length l
-unfolding put_half
-length_put_half l i h = simp length-set

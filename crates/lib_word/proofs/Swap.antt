@@ -1,5 +1,6 @@
--- A word with its bytes swapped: what each of its bytes is, and that swapping twice changes nothing.
-use Rattle.lib_base.proofs.Prelude.{ℕ, ◌<◌, ◌+◌, ◌*◌, ◌%◌, ◌/◌, ◌≡◌, arith}
+-- A word with its bytes swapped: what each of its bytes is, and that the library turns it so.
+use Rattle.lib_base.proofs.Prelude.{ℕ, ◌<◌, ◌+◌, ◌*◌, ◌%◌, ◌/◌, ◌≡◌, [], ◌∷◌, arith}
+use Rattle.std.specs.Int as int
 use Rattle.lib_word.specs.Halves.{swap_bytes}
 
 -- the word of four bytes, the first the lowest
@@ -47,6 +48,18 @@ pub swap_3 : (w : ℕ) → w < 4294967296 → swap_bytes w / 16777216 ≡ w % 25
 swap_3 w h =
     rw (swap_is w) (byte_3 (w / 16777216) (w / 65536 % 256) (w / 256 % 256) (w % 256) (omega arith) (omega arith) (omega arith))
 
-pub swap_twice : (w : ℕ) → w < 4294967296 → swap_bytes (swap_bytes w) ≡ w
-swap_twice w h =
-    rw (swap_is w) (rw (swap_little (w / 16777216) (w / 65536 % 256) (w / 256 % 256) (w % 256) (omega arith) (omega arith) (omega arith)) (omega arith))
+-- the library's turn is the definition's
+pub turn_is : (w : ℕ) → w < 4294967296 → int.swap_bytes int.w32 w ≡ swap_bytes w
+unfolding swap_bytes
+turn_is w h = omega arith
+
+-- the bytes of a turned word from the lowest on are the word's from the highest on
+pub turned_bytes : (w t : ℕ) → w < 4294967296 → t ≡ int.swap_bytes int.w32 w
+    → int.to_le_bytes int.w32 t ≡ w / 16777216 ∷ w / 65536 % 256 ∷ w / 256 % 256 ∷ w % 256 ∷ []
+turned_bytes w t h e =
+    let top : swap_bytes w / 16777216 % 256 ≡ w % 256 = rw (swap_3 w h) (omega arith) in
+    rw (e, turn_is w h) (rw (swap_0 w h, swap_1 w h, swap_2 w h, top))
+
+-- and those of a half
+pub half_bytes : (h : ℕ) → h < 65536 → int.to_be_bytes int.w16 h ≡ h / 256 ∷ h % 256 ∷ []
+half_bytes h b = let high : h / 256 % 256 ≡ h / 256 = omega arith in rw high

@@ -2,10 +2,10 @@
 
 #![tactic(auto)]
 
-ghost use Rattle.std.specs.Prelude.{◌≡◌, ◌+◌, ◌*◌, ◌≤◌, ◌<◌, length};
+ghost use Rattle.std.specs.Prelude.{◌≡◌, ◌+◌, ◌*◌, ◌≤◌, length};
 ghost use Rattle.lib_word.specs.Word.{get_at, get, put};
 ghost use Rattle.lib_word.specs.Halves.{swap_bytes, get_half, put_half};
-ghost use Rattle.lib_base.specs.Words.{byte_values, word_bytes};
+ghost use Rattle.lib_base.specs.Words.{word_bytes};
 
 // The bytes of a word.
 pub const WORD_BYTES: usize = 4;
@@ -19,56 +19,13 @@ pub const THREE_BYTE_VALUES: u32 = 16777216;
 
 pub const WORD_VALUES: u64 = 4294967296;
 
-// The base of words and of halves, short.
-const BASE: u32 = BYTE_VALUES;
-
-const HALF_BASE: u16 = BYTE_VALUES as u16;
-
-fn wide(x: u8) -> u32
-    ensures value { result ≡ x }
-    ensures upper_bound { result < byte_values }
-{
-    x as u32
-}
-
-fn half(x: u8) -> u16
-    ensures value { result ≡ x }
-    ensures upper_bound { result < byte_values }
-{
-    x as u16
-}
-
-// A word with its bytes in the other order: one machine instruction.
-fn swap_bytes(w: u32) -> u32
-    ensures { result ≡ swap_bytes w }
-{
-    w % BASE * THREE_BYTE_VALUES
-        + w / BASE % BASE * HALF_VALUES
-        + w / HALF_VALUES % BASE * BASE
-        + w / THREE_BYTE_VALUES
-}
-
 // The word at byte i with its bytes swapped, as little-endian: in the order of the usual processors four bytes are one
 // load. So several are judged at once, of which each would have to be turned.
 pub fn get_little(bytes: &[u8], i: usize) -> u32
     requires { i + word_bytes ≤ length bytes.now }
     ensures { swap_bytes result ≡ get_at bytes.now i }
 {
-    wide(bytes[i])
-        + wide(bytes[i + 1]) * BASE
-        + wide(bytes[i + 2]) * HALF_VALUES
-        + wide(bytes[i + 3]) * THREE_BYTE_VALUES
-}
-
-// Little-endian too: one store.
-fn put_little(bytes: &mut [u8], k: usize, w: u32)
-    requires { k * word_bytes + word_bytes ≤ length bytes.old }
-    ensures { bytes.new ≡ put bytes.old k (swap_bytes w) }
-{
-    bytes[k * WORD_BYTES] = (w % BASE) as u8;
-    bytes[k * WORD_BYTES + 1] = (w / BASE % BASE) as u8;
-    bytes[k * WORD_BYTES + 2] = (w / HALF_VALUES % BASE) as u8;
-    bytes[k * WORD_BYTES + 3] = (w / THREE_BYTE_VALUES) as u8;
+    u32::from_le_bytes([bytes[i], bytes[i + 1], bytes[i + 2], bytes[i + 3]])
 }
 
 // The word at byte i.
@@ -76,7 +33,7 @@ pub fn get_at(bytes: &[u8], i: usize) -> u32
     requires { i + word_bytes ≤ length bytes.now }
     ensures { result ≡ get_at bytes.now i }
 {
-    swap_bytes(get_little(bytes, i))
+    get_little(bytes, i).swap_bytes()
 }
 
 // Word k.
@@ -87,11 +44,16 @@ pub fn get_word(bytes: &[u8], k: usize) -> u32
     get_at(bytes, k * WORD_BYTES)
 }
 
+// Word k becomes w: turned, as little-endian, one store too.
 pub fn put_word(bytes: &mut [u8], k: usize, w: u32)
     requires { k * word_bytes + word_bytes ≤ length bytes.old }
     ensures { bytes.new ≡ put bytes.old k w }
 {
-    put_little(bytes, k, swap_bytes(w));
+    let [first, second, third, fourth] = w.swap_bytes().to_le_bytes();
+    bytes[k * WORD_BYTES] = first;
+    bytes[k * WORD_BYTES + 1] = second;
+    bytes[k * WORD_BYTES + 2] = third;
+    bytes[k * WORD_BYTES + 3] = fourth;
 }
 
 // The half at byte i.
@@ -99,13 +61,14 @@ pub fn get_half(bytes: &[u8], i: usize) -> u16
     requires { i + 2 ≤ length bytes.now }
     ensures { result ≡ get_half bytes.now i }
 {
-    half(bytes[i]) * HALF_BASE + half(bytes[i + 1])
+    u16::from_be_bytes([bytes[i], bytes[i + 1]])
 }
 
 pub fn put_half(bytes: &mut [u8], i: usize, h: u16)
     requires { i + 2 ≤ length bytes.old }
     ensures { bytes.new ≡ put_half bytes.old i h }
 {
-    bytes[i] = (h / HALF_BASE) as u8;
-    bytes[i + 1] = (h % HALF_BASE) as u8;
+    let [high, low] = h.to_be_bytes();
+    bytes[i] = high;
+    bytes[i + 1] = low;
 }

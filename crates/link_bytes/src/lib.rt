@@ -24,14 +24,12 @@ fn count(s: &[u8], i: usize) -> usize
 {
     let mut at = i;
     let mut c = 0usize;
-    let mut n = 0usize;
-    while n < limits::BEHAVIOURS {
+    for _ in 0..limits::BEHAVIOURS {
         if at == s.len() {
             return c;
         }
         c += sheet_walk::cells_at(s, at);
         at = sheet_walk::after_field(s, at);
-        n += 1;
     }
     c
 }
@@ -53,16 +51,13 @@ fn put_moved(s: &[u8], i: usize, m: usize, out: &mut [u8], k: usize) -> usize
     ensures bytes_written { BytesWritten out.old k (scan m 0 0 (drop i s.now)) out.new result }
     ensures value { result ≡ k + (length s.now - i) }
 {
-    let mut at = i;
     let mut to = k;
     let mut tag = 0u8;
     let mut left = 0usize;
-    while at < s.len() {
-        let b = s[at];
-        out[to] = lift(m, tag, left, b);
-        tag = sheet_walk::tag_after(tag, left, b);
-        left = sheet_walk::left_after(left, b);
-        at += 1;
+    for at in i..s.len() {
+        out[to] = lift(m, tag, left, s[at]);
+        tag = sheet_walk::tag_after(tag, left, s[at]);
+        left = sheet_walk::left_after(left, s[at]);
         to += 1;
     }
     to

@@ -3,9 +3,10 @@ use Rattle.lib_base.proofs.Prelude.{ℕ, ◌≤◌, ◌<◌, ◌+◌, ◌-◌, s
 use Rattle.lib_base.proofs.Prelude.{◌++◌, append_assoc, append-nil, length, take, drop, length-drop, length-take}
 use Rattle.lib_base.proofs.Prelude.{length-take-le, take-length, eqb, ne_eqb, eq-eqb, arith}
 use Rattle.lib_base.proofs.Tools.{split}
-use Rattle.sheet_field.specs.Field.{field_of, FieldWithin}
-use Rattle.sheet_field.specs.declared.Field.{Field}
-use Rattle.sheet_field.specs.declared.Field.TheVariants.{Value, Refused}
+use Rattle.sheet_field.specs.Field.{Field, field_of, FieldWithin}
+use Rattle.std.specs.Prelude.{Ok, Err}
+use Rattle.spec_language.specs.declared.refusals.Refusal.{Refusal}
+use Rattle.sheet_field.specs.declared.Header.{Header}
 use Rattle.sheet_write.specs.Writes.{fitted, event_bytes}
 use Rattle.sheet_write.proofs.Laws.{fitted_taken}
 use Rattle.link_events.specs.Merging.{field_width, width_at, rank_at, sender_at, merged, pair_bytes, events_from, end_from, agree_from}
@@ -20,15 +21,15 @@ module _ (s : List ℕ) (i : ℕ) {a : Field} (e : a ≡ field_of (take (length 
       let all : take (length s - i) (drop i s) ≡ drop i s = ap (λ (n : ℕ). take n (drop i s)) (sym (length-drop i s)) ∙ take-length (drop i s) in
       ap field_width (e ∙ ap (λ (b : List ℕ). field_of b 1 1) all)
 
-  pub width_none : {k : ℕ} → a ≡ Refused k → 0 ≡ width_at s i
+  pub width_none : {r : Refusal} → a ≡ Err r → 0 ≡ width_at s i
   width_none q = sym (ap field_width q) ∙ width_is
 
-  pub width_some : {t n : ℕ} → a ≡ Value t n → n + 3 ≡ width_at s i
+  pub width_some : {f : Header} → a ≡ Ok f → f.size + 3 ≡ width_at s i
   width_some q = sym (ap field_width q) ∙ width_is
 
-pub width_fits : (s : List ℕ) (i : ℕ) {a : Field} {t n : ℕ} → i ≤ length s → FieldWithin (take (length s - i) (drop i s)) a → a ≡ Value t n → i + (n + 3) ≤ length s
-width_fits s i {a} {t} {n} h w q =
-    let v : n + 3 ≤ length (take (length s - i) (drop i s)) = rw q at w in
+pub width_fits : (s : List ℕ) (i : ℕ) {a : Field} {f : Header} → i ≤ length s → FieldWithin (take (length s - i) (drop i s)) a → a ≡ Ok f → i + (f.size + 3) ≤ length s
+width_fits s i {a} {f} h w q =
+    let v : f.size + 3 ≤ length (take (length s - i) (drop i s)) = rw q at w in
     omega (arith, simp (length-take, length-drop) at v)
 
 -- ---- an event's field

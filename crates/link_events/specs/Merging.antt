@@ -1,18 +1,16 @@
 -- The events of two sheets by number, worked out from the sheets' bytes alone, as the code does. 02, M-111. That these
 -- are the pooled sheet's is shown in crate link_bytes.
-use Rattle.std.specs.Prelude.{ℕ, zero, suc, ◌+◌, Bool, true, false, List, [], ◌++◌, get_or, drop, ltb, eqb}
+use Rattle.std.specs.Prelude.{Ok, Err, ℕ, zero, suc, ◌+◌, Bool, true, false, List, [], ◌++◌, get_or, drop, ltb, eqb}
 use Rattle.std.specs.Int.Bits.{bit_and}
 use Rattle.lib_base.specs.Basics.{pick}
-use Rattle.sheet_field.specs.Field.{field_of}
-use Rattle.sheet_field.specs.declared.Field.{Field}
-use Rattle.sheet_field.specs.declared.Field.TheVariants.{Value, Refused}
+use Rattle.sheet_field.specs.Field.{Field, field_of}
 use Rattle.sheet_write.specs.Writes.{event_bytes}
 
 -- how many bytes the event's field at place i has, by the field reader: 4, or 5 with a byte that says who may send it;
 -- 0 where no event stands
 abbrev pub field_width : Field → ℕ
-field_width (Value t n) = n + 3
-field_width (Refused k) = 0
+field_width (Ok h) = h.size + 3
+field_width (Err r) = 0
 
 unfoldable pub width_at : List ℕ → ℕ → ℕ
 width_at s i = field_width (field_of (drop i s) 1 1)

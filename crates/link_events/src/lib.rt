@@ -10,7 +10,7 @@ ghost use Rattle.link_events.specs.Sizes.{events_room};
 ghost use Rattle.sheet_field.specs.Sizes.{pair_field};
 ghost use Rattle.spec_language.specs.Limits.{event_limit};
 
-use sheet_field::{Field, places, sizes, tags};
+use sheet_field::{places, sizes, tags};
 use spec_language::limits;
 
 // Where an event's field has its priority and who may send it.
@@ -27,11 +27,10 @@ fn width(s: &[u8], i: usize) -> usize
     ensures value { result ≡ width_at s.now i }
     ensures result_in_bounds { i + result ≤ length s.now }
 {
-    let a = sheet_field::field_answer(&s[i..], tags::EVENT, tags::EVENT);
-    let Field::Value(_, n) = a else {
+    let Ok(header) = sheet_field::field_answer(&s[i..], tags::EVENT, tags::EVENT) else {
         return 0;
     };
-    n + sizes::HEADER
+    header.size + sizes::HEADER
 }
 
 // The priority in a field of w bytes.
@@ -103,8 +102,7 @@ pub fn put_events(s: &[u8], t: &[u8], out: &mut [u8]) -> usize
     let mut i = 0;
     let mut j = 0;
     let mut k = 0;
-    let mut n = 0usize;
-    while n < limits::EVENTS {
+    for _ in 0..limits::EVENTS {
         let a = width(s, i);
         let b = width(t, j);
         let first = Event { at: i, size: a };
@@ -112,7 +110,6 @@ pub fn put_events(s: &[u8], t: &[u8], out: &mut [u8]) -> usize
         k = put_pair(s, first, t, second, out, k);
         i += a;
         j += b;
-        n += 1;
     }
     k
 }
@@ -123,10 +120,8 @@ pub fn events_end(s: &[u8]) -> usize
     ensures upper_bound { result ≤ length s.now }
 {
     let mut i = 0;
-    let mut n = 0usize;
-    while n < limits::EVENTS {
+    for _ in 0..limits::EVENTS {
         i += width(s, i);
-        n += 1;
     }
     i
 }
@@ -137,8 +132,7 @@ pub fn ranks_agree(s: &[u8], t: &[u8]) -> bool
 {
     let mut i = 0;
     let mut j = 0;
-    let mut n = 0usize;
-    while n < limits::EVENTS {
+    for _ in 0..limits::EVENTS {
         let a = width(s, i);
         let b = width(t, j);
         if a == 0 {
@@ -152,7 +146,6 @@ pub fn ranks_agree(s: &[u8], t: &[u8]) -> bool
         }
         i += a;
         j += b;
-        n += 1;
     }
     true
 }

@@ -9,7 +9,8 @@ ghost use Rattle.format_layout.specs.Round.{call_result};
 ghost use Rattle.run_advance.specs.Advance.{commit_said, advance_left};
 ghost use Rattle.format_layout.specs.Sizes.{queue_limit, round_bytes};
 
-use format_layout::{round, table};
+use format_layout::round::Round;
+use format_layout::table;
 use spec_language::answers;
 
 // The answer of a commit, more where the mark's word is not 0 (02, M-104).
@@ -31,9 +32,9 @@ pub fn advance_on(table: &[u8], round: &mut [u8]) -> u64
         × (running_event round.old < event_count table.now) }
     ensures { call_result result round.new ≡ advance_left table.now round.old }
 {
-    let word = lib_word::get_word(round, round::RUNNING_WORD);
-    let number = lib_word::get_word(round, round::RUNNING_NUMBER);
-    let done = lib_word::get_word(round, round::POSITION);
+    let word = lib_word::get_word(round, Round::RUNNING_WORD);
+    let number = lib_word::get_word(round, Round::RUNNING_NUMBER);
+    let done = lib_word::get_word(round, Round::POSITION);
     let event = format_layout::event_of(word);
     let start = format_layout::event_word(table, event, table::CODE_START);
     let length = format_layout::event_word(table, event, table::CODE_LENGTH);
@@ -44,10 +45,10 @@ pub fn advance_on(table: &[u8], round: &mut [u8]) -> u64
         return answers::FOREIGN;
     }
     if done + 1 < length {
-        lib_word::put_word(round, round::POSITION, done + 1);
+        lib_word::put_word(round, Round::POSITION, done + 1);
         return answers::RAN;
     }
-    let mark = lib_word::get_word(round, round::MARK);
-    lib_word::put_word(round, round::RUNNING, 0);
+    let mark = lib_word::get_word(round, Round::MARK);
+    lib_word::put_word(round, Round::RUNNING, 0);
     commit_of(number, word, mark)
 }

@@ -8,36 +8,33 @@ ghost use Rattle.run_step.specs.Sound.{RoundSound, is_outranked};
 ghost use Rattle.run_burst.specs.Burst.{unmade, stops, burst, burst_on};
 ghost use Rattle.run_burst.specs.Progress.{InstructionsRun, Advanced};
 
+use format_layout::round::Round;
 use spec_language::answers;
 
 // The kinds of a step's answer.
-const KINDS: u64 = spec_language::answers::PLAYER;
+const KINDS: u64 = answers::PLAYER;
 
 // Where a burst ended: the last answer, and the steps left.
-#[derive(Drop)]
+#[derive(Clone, Copy, PartialEq, Eq, Debug, Drop)]
 pub struct Stop {
     pub answer: u64,
     pub left: u32,
 }
 
 // Whether a step that answers a is not made: idle, or refused.
+#[tactic(auto, using(lib_base::proofs::Pick::branches), unfolding(crate::specs::Burst::unmade))]
 fn is_unmade(a: u64) -> bool
     ensures { result ≡ unmade a }
 {
-    if a == spec_language::answers::IDLE {
-        return true;
-    }
-    a == answers::FOREIGN
+    a == answers::IDLE || a == answers::FOREIGN
 }
 
 // Whether a burst ends where a step answers a.
+#[tactic(auto, using(lib_base::proofs::Pick::branches), unfolding(crate::specs::Burst::stops))]
 fn is_stop(a: u64) -> bool
     ensures { result ≡ stops a }
 {
-    if is_unmade(a) {
-        return true;
-    }
-    a % KINDS == spec_language::answers::COMMITTED
+    is_unmade(a) || a % KINDS == answers::COMMITTED
 }
 
 // Up to `most` instructions of the running event, none of them its last, where something runs and is not outranked: how
@@ -50,22 +47,22 @@ fn run_most(table: &[u8], round: &mut [u8], most: u32, outranked: bool) -> u32
     if outranked {
         return 0;
     }
-    if lib_word::get_word(round, format_layout::round::RUNNING) == 0 {
+    if lib_word::get_word(round, Round::RUNNING) == 0 {
         return 0;
     }
-    let position = lib_word::get_word(round, format_layout::round::POSITION);
-    let event = format_layout::event_at(round, format_layout::round::RUNNING_WORD);
+    let position = lib_word::get_word(round, Round::POSITION);
+    let event = format_layout::event_at(round, Round::RUNNING_WORD);
     let length = format_layout::event_word(&*table, event, format_layout::table::CODE_LENGTH);
     if length <= position {
         return 0;
     }
     let start = format_layout::event_word(&*table, event, format_layout::table::CODE_START);
-    let depth = lib_word::get_word(round, format_layout::round::DEPTH);
-    let n = lib_order::smaller(most, length - position - 1);
+    let depth = lib_word::get_word(round, Round::DEPTH);
+    let n = most.min(length - position - 1);
     let ran = run_stretch::run_from(&*table, round, (start + position) as usize, n, depth);
     let done = ran.done;
-    lib_word::put_word(round, format_layout::round::DEPTH, ran.depth);
-    lib_word::put_word(round, format_layout::round::POSITION, position + done);
+    lib_word::put_word(round, Round::DEPTH, ran.depth);
+    lib_word::put_word(round, Round::POSITION, position + done);
     done
 }
 
@@ -77,19 +74,19 @@ fn run_then_step(table: &[u8], round: &mut [u8], left: u32, outranked: bool) -> 
     let done = run_most(&*table, round, left, outranked);
     if done == left {
         return Stop {
-            answer: spec_language::answers::RAN,
+            answer: answers::RAN,
             left: 0,
         };
     }
     let answer = run_step::step_on(&*table, round, outranked);
     if is_unmade(answer) {
         return Stop {
-            answer: answer,
+            answer,
             left: left - done,
         };
     }
     Stop {
-        answer: answer,
+        answer,
         left: left - done - 1,
     }
 }
@@ -107,15 +104,12 @@ pub fn burst_on(table: &[u8], round: &mut [u8], most: u32) -> Stop
         let answer = stop.answer;
         left = stop.left;
         if is_stop(answer) {
-            return Stop {
-                answer: answer,
-                left: left,
-            };
+            return Stop { answer, left };
         }
         outranked = run_step::is_outranked_after(outranked, answer);
     }
     Stop {
-        answer: spec_language::answers::RAN,
+        answer: answers::RAN,
         left: 0,
     }
 }

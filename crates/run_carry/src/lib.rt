@@ -10,7 +10,8 @@ ghost use Rattle.run_carry.specs.Carry.{active_in_table, value_for, fill_at, fil
 ghost use Rattle.format_layout.specs.Sizes.{depth_word, round_bytes, table_bytes};
 ghost use Rattle.spec_language.specs.Limits.{behaviour_limit, stack_depth};
 
-use format_layout::{round, table};
+use format_layout::round::Round;
+use format_layout::table;
 use spec_language::{limits, refusals};
 
 // ---- what each behaviour begins with
@@ -38,7 +39,7 @@ fn value_for(old: &[u8], table: &[u8], round: &[u8], behaviour: usize) -> u32
     if !is_active(table, behaviour) {
         return start;
     }
-    lib_word::get_word(round, round::STORE + behaviour)
+    lib_word::get_word(round, Round::STORE + behaviour)
 }
 
 // A behaviour's value goes into store and scratch of `values`.
@@ -46,8 +47,8 @@ fn fill_at(values: &mut [u8], behaviour: usize, value: u32)
     requires { (round_bytes ≤ length values.old) × (behaviour < behaviour_limit) }
     ensures { values.new ≡ fill_at values.old behaviour value }
 {
-    lib_word::put_word(values, round::STORE + behaviour, value);
-    lib_word::put_word(values, round::SCRATCH + behaviour, value);
+    lib_word::put_word(values, Round::STORE + behaviour, value);
+    lib_word::put_word(values, Round::SCRATCH + behaviour, value);
 }
 
 fn fill(old: &[u8], table: &[u8], round: &[u8], values: &mut [u8])
@@ -55,11 +56,8 @@ fn fill(old: &[u8], table: &[u8], round: &[u8], values: &mut [u8])
         × (round_bytes ≤ length values.old) }
     ensures { values.new ≡ filled_store old.now table.now round.now values.old behaviour_limit }
 {
-    let mut i = 0;
-    while i < limits::BEHAVIOURS {
-        let value = value_for(old, table, round, i);
-        fill_at(values, i, value);
-        i += 1;
+    for i in 0..limits::BEHAVIOURS {
+        fill_at(values, i, value_for(old, table, round, i));
     }
 }
 
@@ -90,9 +88,9 @@ fn shown_for(table: &[u8], values: &[u8], behaviour: usize) -> u32
     ensures { result ≡ shown_for table.now values.now behaviour }
 {
     if lib_word::get_word(table, table::KINDS + behaviour) == 0 {
-        return lib_word::get_word(values, round::STORE + behaviour);
+        return lib_word::get_word(values, Round::STORE + behaviour);
     }
-    lib_word::get_word(values, round::SCRATCH + behaviour)
+    lib_word::get_word(values, Round::SCRATCH + behaviour)
 }
 
 // The values that `carry_on` left go into the round's store.
@@ -100,10 +98,7 @@ pub fn show(table: &[u8], values: &[u8], round: &mut [u8])
     requires { (table_bytes ≤ length table.now) × (round_bytes ≤ length values.now) × (round_bytes ≤ length round.old) }
     ensures { round.new ≡ store_shown table.now values.now round.old behaviour_limit }
 {
-    let mut i = 0;
-    while i < limits::BEHAVIOURS {
-        let value = shown_for(table, values, i);
-        lib_word::put_word(round, round::STORE + i, value);
-        i += 1;
+    for i in 0..limits::BEHAVIOURS {
+        lib_word::put_word(round, Round::STORE + i, shown_for(table, values, i));
     }
 }

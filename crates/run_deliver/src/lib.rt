@@ -17,7 +17,7 @@ ghost use Rattle.run_frame.specs.Ends.{end_kinds};
 ghost use Rattle.spec_language.specs.Limits.{event_limit, player_limit};
 
 use format_layout::round::Round;
-use format_layout::{round, table};
+use format_layout::table;
 use spec_language::{answers, limits, refusals};
 
 // How a delivery ends that is not refused: taken in; no room for a commit; a step refused by 14.
@@ -50,7 +50,7 @@ fn refusal_of(table: &[u8], round: &[u8], number: u32, event: u32, player: u32) 
         (senders_at table.now event) number event player }
     ensures player_lt_player_limit { result ≡ 0 → (player < player_limit) × (event < event_limit) × (number < arrival_limit) }
 {
-    let before = lib_word::get_word(round, round::TAKEN);
+    let before = lib_word::get_word(round, Round::TAKEN);
     if before < number {
         return refusals::MISSING_ENTRIES;
     }
@@ -78,15 +78,15 @@ fn admit_at(round: &mut [u8], number: u32, event: u32, player: u32)
         × (player < player_limit) }
     ensures { round.new ≡ admitted round.old number event player }
 {
-    let waiting = lib_word::get_word(round, round::WAITING);
+    let waiting = lib_word::get_word(round, Round::WAITING);
     run_queue::put_slot(
         round,
         waiting as usize,
         number,
-        player * round::PLAYER + event,
+        player * Round::PLAYER + event,
     );
-    lib_word::put_word(round, round::TAKEN, number + 1);
-    lib_word::put_word(round, round::WAITING, waiting + 1);
+    lib_word::put_word(round, Round::TAKEN, number + 1);
+    lib_word::put_word(round, Round::WAITING, waiting + 1);
 }
 
 // Into a full hand: steps until one commits, whose answer is written, and then the entry joins.
@@ -129,8 +129,8 @@ fn deliver_known(
     ensures { delivery result round.new commits.new
         ≡ deliver_known table.now round.old number event player commits.old }
 {
-    let waiting = lib_word::get_word(round, round::WAITING);
-    if run_arrive::is_full(waiting, lib_word::get_word(round, round::RUNNING)) {
+    let waiting = lib_word::get_word(round, Round::WAITING);
+    if run_arrive::is_full(waiting, lib_word::get_word(round, Round::RUNNING)) {
         return deliver_full(&*table, round, number, event, player, commits);
     }
     admit_at(round, number, event, player);
@@ -170,8 +170,8 @@ pub fn taken_at(table: &[u8], round: &[u8]) -> u64
         return answers::FOREIGN;
     }
     let hand = run_preview::in_hand(
-        lib_word::get_word(round, round::WAITING),
-        lib_word::get_word(round, round::RUNNING),
+        lib_word::get_word(round, Round::WAITING),
+        lib_word::get_word(round, Round::RUNNING),
     );
-    answers::VALUE + (lib_word::get_word(round, round::TAKEN) as u64) + (hand as u64) * IN_HAND
+    answers::VALUE + (lib_word::get_word(round, Round::TAKEN) as u64) + (hand as u64) * IN_HAND
 }

@@ -11,7 +11,8 @@ ghost use Rattle.run_forecast.specs.Steps.{steps_in, longest_in};
 ghost use Rattle.format_layout.specs.Sizes.{queue_limit};
 ghost use Rattle.spec_language.specs.Limits.{instruction_limit};
 
-use format_layout::{round, table};
+use format_layout::round::Round;
+use format_layout::table;
 use spec_language::answers;
 
 // A start and the instructions of each of the first n waiting.
@@ -20,11 +21,9 @@ fn steps_in(table: &[u8], round: &[u8], n: usize) -> u32
     ensures { result ≡ steps_in table.now round.now n }
 {
     let mut steps = 0;
-    let mut i = 0;
-    while i < n {
-        let event = format_layout::event_at(round, round::WORDS + i * 2);
+    for i in 0..n {
+        let event = format_layout::event_at(round, Round::WORDS + i * 2);
         steps += format_layout::event_word(table, event, table::CODE_LENGTH) + 1;
-        i += 1;
     }
     steps
 }
@@ -36,13 +35,8 @@ pub fn longest_of(table: &[u8], n: u32) -> u32
     ensures upper_bound { result ≤ instruction_limit }
 {
     let mut longest = 0;
-    let mut event = 0;
-    while event < n {
-        longest = lib_order::larger(
-            format_layout::event_word(table, event, table::CODE_LENGTH),
-            longest,
-        );
-        event += 1;
+    for event in 0..n {
+        longest = format_layout::event_word(table, event, table::CODE_LENGTH).max(longest);
     }
     longest
 }
@@ -64,9 +58,9 @@ pub fn forecast_at(table: &[u8], round: &[u8]) -> u64
     if !run_validate::is_ours(&*table, &*round) {
         return answers::FOREIGN;
     }
-    let waiting = lib_word::get_word(round, round::WAITING);
+    let waiting = lib_word::get_word(round, Round::WAITING);
     // Nothing runs: the sum, over the hand, of each event's instructions plus one.
-    if lib_word::get_word(round, round::RUNNING) == 0 {
+    if lib_word::get_word(round, Round::RUNNING) == 0 {
         return answers::VALUE + (steps_in(table, round, waiting as usize) as u64);
     }
     // Something runs: 01's bound.

@@ -7,18 +7,20 @@ ghost use Rattle.run_frame.specs.Frame.{frame_said, count_after, commits_after, 
 ghost use Rattle.run_frame.specs.Framed.{room_for, framed};
 ghost use Rattle.run_step.specs.Sound.{RoundSound};
 ghost use Rattle.run_answers.specs.Sizes.{answer_bytes};
-ghost use Rattle.run_frame.specs.Ends.{commit_limit, end_kinds, most_commits};
+ghost use Rattle.run_frame.specs.Ends.{commit_limit, end_number, most_commits};
 
+use format_layout::round::Round;
 use spec_language::answers;
 
 // Why a frame ended: all steps made, nothing in hand, a step refused, no room for a further commit.
-pub const ALL_MADE: u64 = 0;
+#[derive(Clone, Copy, PartialEq, Eq, Debug, Drop)]
+pub enum End {
+    AllMade = 0,
+    Idle = 1,
+    Refused = 2,
+    NoRoom = 3,
+}
 
-pub const IDLE: u64 = 1;
-
-pub const REFUSED: u64 = 2;
-
-pub const NO_ROOM: u64 = 3;
 // What stands above the steps made, and above the commits written.
 pub const STEPS: u64 = 4294967296;
 
@@ -31,11 +33,11 @@ const COMMIT_BYTES: usize = run_answers::ANSWER_BYTES;
 const KINDS: u64 = spec_language::answers::PLAYER;
 
 // The answer of a frame.
-fn frame_answer(why: u64, made: u32, written: u32) -> u64
-    requires { (why < end_kinds) × (written < commit_limit) }
-    ensures { result ≡ frame_said why made written }
+fn frame_answer(why: End, made: u32, written: u32) -> u64
+    requires { written < commit_limit }
+    ensures { result ≡ frame_said (end_number why) made written }
 {
-    why * COMMITS + (written as u64) * STEPS + (made as u64)
+    (why as u64) * COMMITS + (written as u64) * STEPS + (made as u64)
 }
 
 // How many commits so many bytes have room for.
@@ -67,24 +69,23 @@ fn refused_of(room: u32) -> u64
     ensures { result ≡ refused_frame room }
 {
     if room == 0 {
-        return frame_answer(NO_ROOM, 0, 0);
+        return frame_answer(End::NoRoom, 0, 0);
     }
-    frame_answer(REFUSED, 0, 0)
+    frame_answer(End::Refused, 0, 0)
 }
 
 // Why a frame ends that would end for `why`: idle where nothing runs and nothing waits.
-fn idle_or(table: &[u8], round: &[u8], why: u64) -> u64
-    requires { RoundSound table.now round.now × (why < end_kinds) }
-    ensures value { result ≡ idle_or table.now round.now why }
-    ensures upper_bound { result < end_kinds }
+fn idle_or(table: &[u8], round: &[u8], why: End) -> End
+    requires { RoundSound table.now round.now }
+    ensures { end_number result ≡ idle_or table.now round.now (end_number why) }
 {
-    if lib_word::get_word(round, format_layout::round::RUNNING) != 0 {
+    if lib_word::get_word(round, Round::RUNNING) != 0 {
         return why;
     }
-    if lib_word::get_word(round, format_layout::round::WAITING) != 0 {
+    if lib_word::get_word(round, Round::WAITING) != 0 {
         return why;
     }
-    IDLE
+    End::Idle
 }
 
 // Table and round are judged, steps are asked for, and there is room for so many commits.
@@ -97,20 +98,20 @@ fn frame_in(table: &[u8], round: &mut [u8], steps: u32, room: u32, commits: &mut
     let mut written = 0;
     while left > 0 {
         if room <= written {
-            return frame_answer(idle_or(&*table, round, NO_ROOM), steps - left, written);
+            return frame_answer(idle_or(&*table, round, End::NoRoom), steps - left, written);
         }
         let stop = run_burst::burst_on(&*table, round, left);
         let answer = stop.answer;
         left = stop.left;
         if answer == spec_language::answers::IDLE {
-            return frame_answer(IDLE, steps - left, written);
+            return frame_answer(End::Idle, steps - left, written);
         }
         if answer == answers::FOREIGN {
-            return frame_answer(REFUSED, steps - left, written);
+            return frame_answer(End::Refused, steps - left, written);
         }
         written = note(commits, written, answer);
     }
-    frame_answer(idle_or(&*table, round, ALL_MADE), steps, written)
+    frame_answer(idle_or(&*table, round, End::AllMade), steps, written)
 }
 
 // Up to so many steps, until one is idle or refused or there is no room for a further commit: how many were made, the
@@ -119,7 +120,7 @@ pub fn frame_at(table: &[u8], round: &mut [u8], steps: u32, commits: &mut [u8]) 
     ensures { framed result round.new commits.new ≡ frame_on table.now round.old steps commits.old }
 {
     if steps == 0 {
-        return frame_answer(ALL_MADE, 0, 0);
+        return frame_answer(End::AllMade, 0, 0);
     }
     let room = room_of(commits.len());
     if run_validate::is_ours(&*table, round) {

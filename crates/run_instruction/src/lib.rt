@@ -12,7 +12,8 @@ ghost use Rattle.run_instruction.specs.Execution.{left, pushed_on, popped_to, ap
 ghost use Rattle.format_layout.specs.Sizes.{round_bytes, round_words};
 ghost use Rattle.spec_language.specs.Limits.{stack_depth};
 
-use format_layout::{operations, round};
+use format_layout::operations;
+use format_layout::round::Round;
 use lib_signature::functions;
 use spec_language::limits;
 
@@ -25,11 +26,11 @@ const FULL: u32 = limits::STACK as u32;
 pub const NONE: u32 = 4294967295;
 
 // With its depth added, these are the words of the stack's top, and of the two values below it.
-const TOP: usize = round::STACK - 1;
+const TOP: usize = Round::STACK - 1;
 
-const SECOND: usize = round::STACK - 2;
+const SECOND: usize = Round::STACK - 2;
 
-const THIRD: usize = round::STACK - 3;
+const THIRD: usize = Round::STACK - 3;
 
 // Word `from` of the round goes to word `to`.
 fn transfer_word(round: &mut [u8], depth: u32, from: usize, to: usize) -> u32
@@ -47,7 +48,7 @@ fn push(round: &mut [u8], depth: u32, value: u32) -> u32
     ensures { left result round.new ≡ pushed_on round.old depth value }
 {
     if depth < FULL {
-        lib_word::put_word(round, round::STACK + (depth as usize), value);
+        lib_word::put_word(round, Round::STACK + (depth as usize), value);
         return depth + 1;
     }
     NONE
@@ -84,7 +85,7 @@ fn call_on(round: &mut [u8], f: u8, a: u32, b: u32, c: u32) -> u32
     if answer < lib_functions::OVER {
         return answer as u32;
     }
-    lib_word::put_word(round, round::MARK, 1);
+    lib_word::put_word(round, Round::MARK, 1);
     (answer - lib_functions::OVER) as u32
 }
 
@@ -142,14 +143,14 @@ fn move_on(round: &mut [u8], operation: u32, k: usize, constant: u32, depth: u32
     match operation {
         operations::OFF => depth,
         operations::ON => depth,
-        operations::COPY => transfer_word(round, depth, round::STORE + k, round::SCRATCH + k),
-        operations::RESTORE => transfer_word(round, depth, round::SCRATCH + k, round::STORE + k),
+        operations::COPY => transfer_word(round, depth, Round::STORE + k, Round::SCRATCH + k),
+        operations::RESTORE => transfer_word(round, depth, Round::SCRATCH + k, Round::STORE + k),
         operations::PUSH => push(round, depth, constant),
-        operations::LOAD => push_word(round, depth, round::STORE + k),
-        operations::FETCH => push_word(round, depth, round::SCRATCH + k),
-        operations::SAVE => pop(round, depth, round::SCRATCH + k),
-        operations::DEFER => pop(round, depth, round::DEFERRED + k),
-        operations::MOVE => transfer_word(round, depth, round::DEFERRED + k, round::SCRATCH + k),
+        operations::LOAD => push_word(round, depth, Round::STORE + k),
+        operations::FETCH => push_word(round, depth, Round::SCRATCH + k),
+        operations::SAVE => pop(round, depth, Round::SCRATCH + k),
+        operations::DEFER => pop(round, depth, Round::DEFERRED + k),
+        operations::MOVE => transfer_word(round, depth, Round::DEFERRED + k, Round::SCRATCH + k),
         _ => NONE,
     }
 }

@@ -10,7 +10,8 @@ ghost use Rattle.format_layout.specs.Round.{call_result};
 ghost use Rattle.run_mend.specs.Mending.{waiting_known, hand_known, back_in_hand, rested, mend_on};
 ghost use Rattle.format_layout.specs.Sizes.{beside_running, queue_limit, round_bytes};
 
-use format_layout::{round, table};
+use format_layout::round::Round;
+use format_layout::table;
 use spec_language::refusals;
 
 // ---- the hand
@@ -20,14 +21,7 @@ fn waiting_known(round: &[u8], known: u32, n: u32) -> bool
     requires { (round_bytes ≤ length round.now) × (n ≤ queue_limit) }
     ensures { result ≡ waiting_known round.now known n }
 {
-    let mut i = n;
-    while i > 0 {
-        i -= 1;
-        if format_layout::event_at(round, round::WORDS + (i as usize) * 2) >= known {
-            return false;
-        }
-    }
-    true
+    (0..n).all(|i| format_layout::event_at(round, Round::WORDS + (i as usize) * 2) < known)
 }
 
 // Whether the new table declares each event in hand, the running one's too.
@@ -36,13 +30,13 @@ fn hand_known(table: &[u8], round: &[u8]) -> bool
     ensures { result ≡ hand_known table.now round.now }
 {
     let known = lib_word::get_word(table, table::EVENT_COUNT);
-    if !waiting_known(round, known, lib_word::get_word(round, round::WAITING)) {
+    if !waiting_known(round, known, lib_word::get_word(round, Round::WAITING)) {
         return false;
     }
-    if lib_word::get_word(round, round::RUNNING) == 0 {
+    if lib_word::get_word(round, Round::RUNNING) == 0 {
         return true;
     }
-    format_layout::event_at(round, round::RUNNING_WORD) < known
+    format_layout::event_at(round, Round::RUNNING_WORD) < known
 }
 
 // The running one, if any, goes back to the hand.
@@ -53,14 +47,14 @@ fn back_in_hand(round: &mut [u8])
         ≡ back_in_hand round.old (waiting_count round.old)
         (running_flag round.old) (running_number round.old) (running_word round.old) }
 {
-    if lib_word::get_word(round, round::RUNNING) == 0 {
+    if lib_word::get_word(round, Round::RUNNING) == 0 {
         return;
     }
-    let waiting = lib_word::get_word(round, round::WAITING);
-    let number = lib_word::get_word(round, round::RUNNING_NUMBER);
-    let word = lib_word::get_word(round, round::RUNNING_WORD);
+    let waiting = lib_word::get_word(round, Round::WAITING);
+    let number = lib_word::get_word(round, Round::RUNNING_NUMBER);
+    let word = lib_word::get_word(round, Round::RUNNING_WORD);
     run_queue::put_slot(round, waiting as usize, number, word);
-    lib_word::put_word(round, round::WAITING, waiting + 1);
+    lib_word::put_word(round, Round::WAITING, waiting + 1);
 }
 
 // Nothing runs.
@@ -68,9 +62,9 @@ fn rest(round: &mut [u8])
     requires { round_bytes ≤ length round.old }
     ensures { round.new ≡ rested round.old }
 {
-    lib_word::put_word(round, round::RUNNING, 0);
-    lib_word::put_word(round, round::DEPTH, 0);
-    lib_word::put_word(round, round::MARK, 0);
+    lib_word::put_word(round, Round::RUNNING, 0);
+    lib_word::put_word(round, Round::DEPTH, 0);
+    lib_word::put_word(round, Round::MARK, 0);
 }
 
 // ---- the call
@@ -87,7 +81,7 @@ pub fn mend_at(old: &[u8], table: &[u8], round: &mut [u8]) -> u32
         return refusals::FOREIGN;
     }
     // The new values, in bytes of their own: 14 where an instruction for the passives may not run.
-    let mut values = [0u8; round::BYTES];
+    let mut values = [0u8; Round::BYTES];
     let answer = run_carry::carry_on(old, table, round, &mut values);
     if answer != 0 {
         return answer;

@@ -10,6 +10,7 @@ ghost use Rattle.run_step.specs.Sound.{RoundSound};
 ghost use Rattle.run_preview.specs.Preview.{last_step, to_idle, in_hand, preview_steps, preview_answer, shown_in, preview_copy, preview_on};
 ghost use Rattle.format_layout.specs.Sizes.{arrival_limit, queue_limit, round_bytes};
 
+use format_layout::round::Round;
 use spec_language::answers;
 
 // ---- to idle
@@ -60,8 +61,8 @@ fn count_of(table: &[u8], round: &[u8]) -> u32
     ensures upper_bound { result ≤ arrival_limit }
 {
     let k = in_hand(
-        lib_word::get_word(round, format_layout::round::WAITING),
-        lib_word::get_word(round, format_layout::round::RUNNING),
+        lib_word::get_word(round, Round::WAITING),
+        lib_word::get_word(round, Round::RUNNING),
     );
     let events = lib_word::get_word(table, format_layout::table::EVENT_COUNT);
     let longest = run_forecast::longest_of(&*table, events);
@@ -89,7 +90,7 @@ fn shown_in(table: &[u8], round: &mut [u8], behaviour: u32) -> u64
     let answer = run_to_idle(&*table, round, most + 1);
     shown_by(
         answer,
-        lib_word::get_word(round, format_layout::round::STORE + (behaviour as usize)),
+        lib_word::get_word(round, Round::STORE + (behaviour as usize)),
     )
 }
 
@@ -117,10 +118,10 @@ fn preview_copy(table: &[u8], round: &mut [u8], event: u32, behaviour: u32, play
 pub fn preview_at(table: &[u8], round: &[u8], event: u32, behaviour: u32, player: u32) -> u64
     ensures { result ≡ preview_on table.now round.now event behaviour player }
 {
-    if round.len() < format_layout::round::BYTES {
+    if round.len() < Round::BYTES {
         return answers::FOREIGN;
     }
-    let mut copy = [0u8; format_layout::round::BYTES];
-    copy.copy_from_slice(&round[0..format_layout::round::BYTES]);
+    let mut copy = [0u8; Round::BYTES];
+    copy.copy_from_slice(&round[0..Round::BYTES]);
     preview_copy(&*table, &mut copy, event, behaviour, player)
 }

@@ -45,8 +45,7 @@ pub fn best_of(table: &[u8], round: &[u8], n: usize) -> usize
     let mut best = 0;
     let mut best_priority = priority_at(&*table, &*round, 0);
     let mut best_number = lib_word::get_word(round, Round::NUMBERS);
-    let mut i = 1;
-    while i < n {
+    for i in 1..n {
         let priority = priority_at(&*table, &*round, i);
         let number = lib_word::get_word(round, Round::NUMBERS + i * 2);
         if is_ahead(priority, number, best_priority, best_number) {
@@ -54,7 +53,6 @@ pub fn best_of(table: &[u8], round: &[u8], n: usize) -> usize
             best_priority = priority;
             best_number = number;
         }
-        i += 1;
     }
     best
 }
@@ -64,14 +62,7 @@ pub fn is_any_above(table: &[u8], round: &[u8], p: u32, n: usize) -> bool
     requires { (table_bytes ≤ length table.now) × (round_bytes ≤ length round.now) × (n ≤ queue_limit) × EventsKnown round.now n }
     ensures { result ≡ any_above table.now round.now p n }
 {
-    let mut i = n;
-    while i > 0 {
-        i -= 1;
-        if p < priority_at(&*table, &*round, i) {
-            return true;
-        }
-    }
-    false
+    (0..n).any(|i| p < priority_at(table, round, i))
 }
 
 // Arrival `number`, with the word of its event and player, waits in slot i.

@@ -16,16 +16,7 @@ fn bit(n: u32) -> u32
     ensures value { result ≡ 2 ^ n }
     ensures result_nonzero { 0 < result }
 {
-    match n {
-        0 => 1,
-        1 => 2,
-        2 => 4,
-        3 => 8,
-        4 => 16,
-        5 => 32,
-        6 => 64,
-        _ => 128,
-    }
+    1 << n
 }
 
 // Whether a player is permitted by a word with a bit for each; the host always is.

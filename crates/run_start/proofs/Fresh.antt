@@ -4,6 +4,8 @@
 use Rattle.lib_base.proofs.Prelude.{ℕ, ◌≤◌, ◌<◌, ◌+◌, ◌-◌, suc, zero, ◌*◌, ◌≡◌, refl, ◌∙◌, sym, ap, false, List, []}
 use Rattle.lib_base.proofs.Prelude.{◌∷◌, length, get_or, drop, length-set, set, get_or-set_other, get_or-set_same, ext_get_or}
 use Rattle.lib_base.proofs.Prelude.{get_or-drop, eqb, ltb, eqb-true, ltb-false, eqb-false, ltb-true, arith}
+use Rattle.std.proofs.lemmas.List.{get_or_append_left, get_or-append_right, get_or-replicate, length-drop, length-replicate, length-append}
+use Rattle.lib_base.proofs.Prelude.{◌++◌, replicate}
 use Rattle.lib_base.proofs.Tools.{split}
 use Rattle.lib_word.specs.Word.{put}
 use Rattle.format_layout.specs.Foreign.{table_fits}
@@ -84,6 +86,21 @@ cleared_length : (l : List ℕ) (n : ℕ) → length (cleared l n) ≡ length l
 unfolding cleared
 cleared_length l zero = refl
 cleared_length l (suc n) = length_put (cleared l n) n 0 ∙ cleared_length l n
+
+-- zeros in front of the bytes beyond are the words cleared
+pub zeros_are : (l m : List ℕ) (k : ℕ) → 2048 ≤ length l → k ≡ 2048 → m ≡ replicate k 0 → m ++ drop 2048 l ≡ cleared l 512
+zeros_are l m k h z e₀ =
+    let e : m ≡ replicate 2048 0 = rw z at e₀ in
+    let n : length m ≡ 2048 = rw e (length-replicate {A = ℕ} 2048 0) in
+    ext_get_or 0 (m ++ drop 2048 l) (cleared l 512)
+    (rw (length-append, n, length-drop, cleared_length l 512) (omega arith))
+    (λ i _. split (ltb i 2048)
+    (λ b. let f : i < 2048 = ltb-true i 2048 b in
+    get_or_append_left m (drop 2048 l) 0 i (rw n f) ∙ (rw e (get_or-replicate 2048 i 0 0 f)) ∙ sym (cleared_zero l 512 i f))
+    (λ b. let f : 2048 ≤ i = ltb-false i 2048 b in
+    let q : 2048 + (i - 2048) ≡ i = omega arith in
+    get_or-append_right m (drop 2048 l) 2048 i 0 n f ∙ (get_or-drop 2048 l (i - 2048) 0 ∙ ap (λ (j : ℕ). get_or l j 0) q)
+    ∙ sym (cleared_other l 512 i f)))
 
 -- ---- the whole round
 

@@ -17,21 +17,15 @@ fn clear(round: &mut [u8])
     requires { round_bytes ≤ length round.old }
     ensures { round.new ≡ cleared round.old round_words }
 {
-    let mut i = 0;
-    while i < Round::WORD_COUNT {
-        lib_word::put_word(round, i, 0);
-        i += 1;
-    }
+    round[..Round::BYTES].fill(0);
 }
 
-fn put_store(round: &mut [u8], store: &[u32])
-    requires { (round_bytes ≤ length round.old) × (length store.now ≡ behaviour_limit) }
+fn put_store(round: &mut [u8], store: &[u32; limits::BEHAVIOURS])
+    requires { round_bytes ≤ length round.old }
     ensures { round.new ≡ stored store.now round.old behaviour_limit }
 {
-    let mut i = 0;
-    while i < limits::BEHAVIOURS {
+    for i in 0..limits::BEHAVIOURS {
         lib_word::put_word(round, Round::STORE + i, store[i]);
-        i += 1;
     }
 }
 
@@ -44,8 +38,7 @@ fn write_round(fresh: Round, round: &mut [u8])
     lib_word::put_word(round, Round::TAKEN, fresh.taken);
     lib_word::put_word(round, Round::WAITING, fresh.waiting);
     lib_word::put_word(round, Round::RUNNING, fresh.running);
-    let store = fresh.store;
-    put_store(round, &store);
+    put_store(round, &fresh.store);
 }
 
 // The values of a fresh round, as compile left them in the table.
@@ -54,10 +47,8 @@ fn first_values(table: &[u8]) -> [u32; limits::BEHAVIOURS]
     ensures { result ≡ values_in table.now (replicate behaviour_limit 0) behaviour_limit }
 {
     let mut store = [0u32; limits::BEHAVIOURS];
-    let mut i = 0;
-    while i < limits::BEHAVIOURS {
+    for i in 0..limits::BEHAVIOURS {
         store[i] = lib_word::get_word(table, table::VALUES + i);
-        i += 1;
     }
     store
 }

@@ -8,7 +8,8 @@ ghost use Rattle.format_layout.specs.Round.{call_result};
 ghost use Rattle.run_step.specs.Machine.{step_on};
 ghost use Rattle.run_step.specs.Sound.{RoundSound, is_outranked, is_preempted, outranked_after};
 
-use format_layout::{round, table};
+use format_layout::round::Round;
+use format_layout::table;
 use spec_language::answers;
 
 // Whether something in the hand outranks the running event.
@@ -16,12 +17,12 @@ pub fn is_outranked(table: &[u8], round: &[u8]) -> bool
     requires { RoundSound table.now round.now }
     ensures { result ≡ is_outranked table.now round.now }
 {
-    if lib_word::get_word(round, round::RUNNING) == 0 {
+    if lib_word::get_word(round, Round::RUNNING) == 0 {
         return false;
     }
-    let event = format_layout::event_at(round, round::RUNNING_WORD);
+    let event = format_layout::event_at(round, Round::RUNNING_WORD);
     let priority = format_layout::event_word(table, event, table::PRIORITY);
-    let waiting = lib_word::get_word(round, round::WAITING) as usize;
+    let waiting = lib_word::get_word(round, Round::WAITING) as usize;
     run_queue::is_any_above(&*table, &*round, priority, waiting)
 }
 
@@ -47,10 +48,10 @@ fn is_preempted(table: &[u8], round: &[u8], outranked: bool) -> bool
     if !outranked {
         return false;
     }
-    let event = format_layout::event_at(round, round::RUNNING_WORD);
+    let event = format_layout::event_at(round, Round::RUNNING_WORD);
     let length = format_layout::event_word(table, event, table::CODE_LENGTH);
     let members = format_layout::event_word(table, event, table::MEMBERS);
-    !run_board::is_masked(length, members, lib_word::get_word(round, round::POSITION))
+    !run_board::is_masked(length, members, lib_word::get_word(round, Round::POSITION))
 }
 
 // One step on a table and a round that are judged; outranked: something in the hand outranks the running event. It does
@@ -61,7 +62,7 @@ pub fn step_on(table: &[u8], round: &mut [u8], outranked: bool) -> u64
     ensures round_sound { RoundSound table.now round.new
         × (is_outranked table.now round.new ≡ outranked_after outranked result) }
 {
-    let waiting = lib_word::get_word(round, round::WAITING) as usize;
+    let waiting = lib_word::get_word(round, Round::WAITING) as usize;
     // Unmasked, and something in the hand outranks the running event: that goes back to the hand, its scratch is
     // dropped, the next starts.
     if is_preempted(&*table, round, outranked) {
@@ -69,7 +70,7 @@ pub fn step_on(table: &[u8], round: &mut [u8], outranked: bool) -> u64
         return run_dispatch::preempt_at(round, next);
     }
     // Something runs: one instruction.
-    if lib_word::get_word(round, round::RUNNING) != 0 {
+    if lib_word::get_word(round, Round::RUNNING) != 0 {
         return run_advance::advance_on(&*table, round);
     }
     // Something waits: the next starts.

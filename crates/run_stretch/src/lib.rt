@@ -11,12 +11,13 @@ ghost use Rattle.run_stretch.specs.Stretch.{stretch_from, executed_at, ran_to, r
 ghost use Rattle.format_layout.specs.Sizes.{depth_word, round_bytes, table_bytes};
 ghost use Rattle.spec_language.specs.Limits.{instruction_limit, stack_depth};
 
-use format_layout::{round, table};
+use format_layout::round::Round;
+use format_layout::table;
 use run_instruction::NONE;
 use spec_language::refusals;
 
 // How many instructions ran, and the stack's depth then.
-#[derive(Drop)]
+#[derive(Clone, Copy, PartialEq, Eq, Debug, Drop)]
 pub struct Ran {
     pub done: u32,
     pub depth: u32,
@@ -38,21 +39,16 @@ pub fn run_from(table: &[u8], round: &mut [u8], k: usize, n: u32, depth: u32) ->
     ensures round_after { ran_to result.done result.depth round.new ≡ ran_from table.now k n depth round.old }
     ensures done_le_n { (result.done ≤ n) × (result.depth ≤ stack_depth) }
 {
-    let mut done = 0;
     let mut deep = depth;
-    while done < n {
+    for done in 0..n {
         let after = execute_at(&*table, round, k + (done as usize), deep);
         if after == NONE {
-            return Ran {
-                done: done,
-                depth: deep,
-            };
+            return Ran { done, depth: deep };
         }
         deep = after;
-        done += 1;
     }
     Ran {
-        done: done,
+        done: n,
         depth: deep,
     }
 }
@@ -63,10 +59,10 @@ pub fn execute_from(table: &[u8], round: &mut [u8], k: usize, n: u32) -> u32
         × (get round.old depth_word ≤ stack_depth) }
     ensures { call_result result round.new ≡ stretch_from table.now k n round.old }
 {
-    let depth = lib_word::get_word(round, round::DEPTH);
+    let depth = lib_word::get_word(round, Round::DEPTH);
     let ran = run_from(&*table, round, k, n, depth);
     let done = ran.done;
-    lib_word::put_word(round, round::DEPTH, ran.depth);
+    lib_word::put_word(round, Round::DEPTH, ran.depth);
     if done < n {
         return refusals::FOREIGN;
     }

@@ -37,11 +37,9 @@ fn slots_fit(round: &[u8], known: u32, n: usize) -> bool
     ensures { result ≡ slots_fit round.now known n }
 {
     let mut fit = true;
-    let mut i = 0;
-    while i < n {
+    for i in 0..n {
         let swapped = lib_word::get_little(round, FIRST_SLOT + i * SLOT_BYTES);
-        fit = fit & hand_fits(known, swapped);
-        i += 1;
+        fit &= hand_fits(known, swapped);
     }
     fit
 }

@@ -1,17 +1,18 @@
 -- A field is its header, and torn where the length that it states is past the end: the four tests of `field_of` are the
 -- header's three and that one.
 use Rattle.lib_base.proofs.Prelude.{ℕ, ◌≤◌, ◌<◌, ◌-◌, ◌≡◌, ◌∙◌, sym, ap, List, length, get_or, ltb, le-ltb, lt-ltb}
+use Rattle.std.specs.Prelude.{Ok, Err}
 use Rattle.lib_base.specs.Basics.{pick}
 use Rattle.lib_base.proofs.Tools.{split}
-use Rattle.spec_language.specs.Refusals.{torn}
-use Rattle.sheet_field.specs.declared.Field.{Field}
-use Rattle.sheet_field.specs.declared.Field.TheVariants.{Value, Refused}
-use Rattle.sheet_field.specs.Field.{field_of}
+use Rattle.spec_language.specs.declared.refusals.Refusal.{Refusal}
+use Rattle.spec_language.specs.declared.refusals.Refusal.TheVariants.{Torn}
+use Rattle.sheet_field.specs.declared.Header.{Header}
+use Rattle.sheet_field.specs.Field.{Field, field_of}
 use Rattle.sheet_field.specs.Header.{header_of}
 
 abbrev pub whole_in : List ℕ → Field → Field
-whole_in s (Value t n) = pick (ltb (length s - 3) n) (Refused torn) (Value t n)
-whole_in s (Refused k) = Refused k
+whole_in s (Ok h) = pick (ltb (length s - 3) h.size) (Err Torn) (Ok h)
+whole_in s (Err r) = Err r
 
 pub header_whole : (s : List ℕ) (lo hi : ℕ) → whole_in s (header_of s lo hi) ≡ field_of s lo hi
 unfolding header_of field_of
@@ -25,11 +26,11 @@ module _ (s : List ℕ) (lo hi : ℕ) {a : Field} (e : a ≡ header_of s lo hi) 
   answer_is : {b : Field} → a ≡ b → whole_in s b ≡ field_of s lo hi
   answer_is q = ap (whole_in s) (sym q ∙ e) ∙ header_whole s lo hi
 
-  pub answer_refused : {k : ℕ} → a ≡ Refused k → a ≡ field_of s lo hi
-  answer_refused q = q ∙ answer_is q
+  pub answer_refused : {r : Refusal} → a ≡ Err r → Err r ≡ field_of s lo hi
+  answer_refused q = answer_is q
 
-  pub answer_torn : {t n : ℕ} → a ≡ Value t n → length s - 3 < n → Refused torn ≡ field_of s lo hi
-  answer_torn {t} {n} q h = rw (lt-ltb (length s - 3) n h) at (answer_is q)
+  pub answer_torn : {h : Header} → a ≡ Ok h → length s - 3 < h.size → Err Torn ≡ field_of s lo hi
+  answer_torn {h} q p = rw (lt-ltb (length s - 3) h.size p) at (answer_is q)
 
-  pub answer_whole : {t n : ℕ} → a ≡ Value t n → n ≤ length s - 3 → Value t n ≡ field_of s lo hi
-  answer_whole {t} {n} q h = rw (le-ltb (length s - 3) n h) at (answer_is q)
+  pub answer_whole : {h : Header} → a ≡ Ok h → h.size ≤ length s - 3 → Ok h ≡ field_of s lo hi
+  answer_whole {h} q p = rw (le-ltb (length s - 3) h.size p) at (answer_is q)

@@ -6,19 +6,11 @@ use Rattle.lib_base.proofs.Prelude.{drop-drop, take-length, eqb, ltb, ne_eqb, le
 use lib.Seq.{drop-length}
 use Rattle.lib_base.specs.Basics.{pick}
 use Rattle.lib_base.proofs.Tools.{split}
-use Rattle.sheet_field.specs.Field.{stated, field_of, FieldWithin}
-use Rattle.sheet_field.specs.declared.Field.{Field}
-use Rattle.sheet_field.specs.declared.Field.TheVariants.{Value, Refused}
+use Rattle.sheet_field.specs.Field.{Field, stated, field_of, FieldWithin}
+use Rattle.std.specs.Prelude.{Ok, Err}
+use Rattle.spec_language.specs.declared.refusals.Refusal.{Refusal}
+use Rattle.sheet_field.specs.declared.Header.{Header}
 use Rattle.sheet_walk.specs.Fields.{after_field, past_fields}
-
--- ---- a byte, and a place further on
-
-pub byte_past : (s : List ℕ) (at k : ℕ) → at ≤ length s → length s - at ≤ k → 0 ≡ get_or (drop at s) k 0
-byte_past s at k h l = let g : length s ≤ at + k = omega arith in rw (get_or-drop at s k 0) (sym (List·getD-eq-default s 0 g))
-
-pub onward_end : (s : List ℕ) (at n : ℕ) → at ≤ length s → length s - at < n → drop (length s) s ≡ drop n (drop at s)
-onward_end s at n h l =
-    let g : length (drop at s) ≤ n = simp length-drop (omega arith) in rw (drop-length s) (sym (drop_of_length-le (drop at s) g))
 
 -- what is left of a number of turns
 pub turns : (left : ℕ) → 0 < left → left ≡ suc (left - 1)
@@ -27,8 +19,8 @@ turns left h = omega arith
 -- ---- behind a field, by the field reader
 
 abbrev place_after : ℕ → ℕ → Field → ℕ
-place_after at size (Value t n) = at + n + 3
-place_after at size (Refused k) = size
+place_after at size (Ok h) = at + h.size + 3
+place_after at size (Err r) = size
 
 module _ (s : List ℕ) (at : ℕ) (h : at ≤ length s) (byte : get_or s at 0 < 256) {a : Field} (e : a ≡ field_of (take (length s - at) (drop at s)) 0 255) where
   past_end : length (drop at s) ≤ stated (drop at s) + 3 → drop (length s) s ≡ after_field (drop at s)
@@ -48,16 +40,11 @@ module _ (s : List ℕ) (at : ℕ) (h : at ≤ length s) (byte : get_or s at 0 <
       (λ u. rw (t, u) (past_end (omega (arith, ltb-true (length b - 3) m u))))
       (λ u. rw (t, u) (let z : at + (m + 3) ≡ at + m + 3 = omega arith in sym (drop-drop (m + 3) at s ∙ ap (λ (n : ℕ). drop n s) z)))))
 
-  pub after_refused : {k : ℕ} → a ≡ Refused k → drop (length s) s ≡ after_field (drop at s)
+  pub after_refused : {r : Refusal} → a ≡ Err r → drop (length s) s ≡ after_field (drop at s)
   after_refused q = sym (ap (λ (f : Field). drop (place_after at (length s) f) s) q) ∙ after_is
 
-  pub after_value : {t n : ℕ} → a ≡ Value t n → drop (at + n + 3) s ≡ after_field (drop at s)
+  pub after_value : {f : Header} → a ≡ Ok f → drop (at + f.size + 3) s ≡ after_field (drop at s)
   after_value q = sym (ap (λ (f : Field). drop (place_after at (length s) f) s) q) ∙ after_is
-
-pub value_fits : (s : List ℕ) (at : ℕ) {a : Field} {t n : ℕ} → at ≤ length s → FieldWithin (take (length s - at) (drop at s)) a → a ≡ Value t n → at + n + 3 ≤ length s
-value_fits s at {a} {t} {n} h w q =
-    let v : n + 3 ≤ length (take (length s - at) (drop at s)) = rw q at w in
-    omega (arith, simp (length-take, length-drop) at v)
 
 -- ---- past the fields of a tag
 

@@ -10,10 +10,7 @@ ghost use Rattle.sheet_walk.specs.Fields.{after_field, word_in_front, past_field
 ghost use Rattle.sheet_walk.specs.Scanner.{until_tag, left_after, tag_after, is_number};
 ghost use Rattle.lib_base.specs.Words.{highest_byte, word_values};
 
-use sheet_field::{Field, places, sizes, tags};
-
-// What a word's bytes count, from the last but one on.
-const BYTE: u64 = sizes::HIGH as u64;
+use sheet_field::{places, sizes, tags};
 
 // Where a row's cells stand in its field.
 const CELLS: usize = sizes::HEADER + places::CELLS;
@@ -23,10 +20,7 @@ pub fn byte_from(s: &[u8], at: usize, k: usize) -> u8
     requires { at ≤ length s.now }
     ensures { result ≡ get_or (drop at s.now) k 0 }
 {
-    if s.len() - at <= k {
-        return 0;
-    }
-    s[at + k]
+    s[at..].get(k).copied().unwrap_or(0)
 }
 
 // The place n bytes on, or the end.
@@ -47,11 +41,10 @@ pub fn after_field(s: &[u8], at: usize) -> usize
     ensures s_value { drop result s.now ≡ after_field (drop at s.now) }
     ensures upper_bound { result ≤ length s.now }
 {
-    let a = sheet_field::field_answer(&s[at..], 0, u8::MAX);
-    let Field::Value(_, n) = a else {
+    let Ok(header) = sheet_field::field_answer(&s[at..], 0, u8::MAX) else {
         return s.len();
     };
-    at + n + sizes::HEADER
+    at + header.size + sizes::HEADER
 }
 
 // The four bytes from a place on as a word.
@@ -60,11 +53,13 @@ pub fn word_from(s: &[u8], at: usize) -> u64
     ensures value { result ≡ word_in_front (drop at s.now) }
     ensures upper_bound { result < word_values }
 {
-    let a = byte_from(s, at, 0) as u64;
-    let b = byte_from(s, at, 1) as u64;
-    let c = byte_from(s, at, 2) as u64;
-    let d = byte_from(s, at, 3) as u64;
-    ((a * BYTE + b) * BYTE + c) * BYTE + d
+    let bytes = [
+        byte_from(s, at, 0),
+        byte_from(s, at, 1),
+        byte_from(s, at, 2),
+        byte_from(s, at, 3),
+    ];
+    u32::from_be_bytes(bytes) as u64
 }
 
 // The place behind the fields of a tag that stand there.
@@ -74,18 +69,17 @@ pub fn past_fields(s: &[u8], from: usize, tag: u8) -> usize
     ensures upper_bound { result ≤ length s.now }
 {
     let mut at = from;
-    let mut left = s.len();
-    while 0 < left {
+    for _ in 0..s.len() {
         if byte_from(s, at, 0) != tag {
             return at;
         }
         at = after_field(s, at);
-        left -= 1;
     }
     at
 }
 
 // How many behaviours the field at a place stands for.
+#[tactic(auto, using(lib_base::proofs::Pick::branches))]
 pub fn cells_at(s: &[u8], at: usize) -> usize
     requires { at ≤ length s.now }
     ensures value { result ≡ cells_in_front (drop at s.now) }
@@ -108,50 +102,38 @@ const LENGTH_AND_PAIR: usize = sizes::HANDLER_HEAD - 1;
 const LENGTH_AND_WORD: usize = sizes::WORD_FIELD - 1;
 
 // How many bytes stand behind this tag before the next.
+#[tactic(auto, using(lib_base::proofs::Pick::branches), unfolding(crate::specs::Scanner::until_tag))]
 fn until_tag(b: u8) -> usize
     ensures { result ≡ until_tag b }
 {
-    if b == tags::CONSTANT {
-        return LENGTH_AND_WORD;
+    match b {
+        tags::CONSTANT | tags::START => LENGTH_AND_WORD,
+        tags::HANDLER => LENGTH_AND_PAIR,
+        _ if b < tags::START => LENGTH,
+        _ => LENGTH_AND_BYTE,
     }
-    if b == tags::START {
-        return LENGTH_AND_WORD;
-    }
-    if b == tags::HANDLER {
-        return LENGTH_AND_PAIR;
-    }
-    if b < tags::START {
-        return LENGTH;
-    }
-    LENGTH_AND_BYTE
 }
 
 // The same after one more byte: `left` stood before the next tag, and the byte is a tag where none did.
+#[tactic(auto, using(lib_base::proofs::Pick::branches), unfolding(crate::specs::Scanner::left_after))]
 pub fn left_after(left: usize, b: u8) -> usize
     ensures { result ≡ left_after left b }
 {
-    if left == 0 {
-        return until_tag(b);
-    }
-    left - 1
+    if left == 0 { until_tag(b) } else { left - 1 }
 }
 
 // The tag met last, after one more byte.
+#[tactic(auto, using(lib_base::proofs::Pick::branches), unfolding(crate::specs::Scanner::tag_after))]
 pub fn tag_after(tag: u8, left: usize, b: u8) -> u8
     ensures { result ≡ tag_after tag left b }
 {
-    if left == 0 {
-        return b;
-    }
-    tag
+    if left == 0 { b } else { tag }
 }
 
 // Whether the byte that comes is the number in a field of the tag `of`: the last byte behind that tag.
+#[tactic(auto, using(lib_base::proofs::Pick::branches), unfolding(crate::specs::Scanner::is_number))]
 pub fn is_number(of: u8, tag: u8, left: usize) -> bool
     ensures { result ≡ is_number of tag left }
 {
-    if left == 1 {
-        return tag == of;
-    }
-    false
+    left == 1 && tag == of
 }

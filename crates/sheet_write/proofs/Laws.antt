@@ -1,14 +1,17 @@
 -- Laws of writes in a row, which make up a field from its header and its value and are left out where they do not fit,
 -- of the shift's loop, and of a head put before its arguments.
 use Rattle.lib_base.proofs.Prelude.{ℕ, ◌≤◌, ◌<◌, ◌+◌, ◌-◌, suc, ◌%◌, ◌/◌, ◌≡◌, refl, ◌∙◌, sym, ap, List, [], ◌∷◌, ◌++◌}
-use Rattle.lib_base.proofs.Prelude.{append_assoc, length, get_or, take, drop, length-set, set, length-append, length-drop}
-use Rattle.lib_base.proofs.Prelude.{List·getD-append, take-append-drop, length-take-le, take-suc, sets, get_or-take}
+use Rattle.lib_base.proofs.Prelude.{append_assoc, length, take, drop, set, length-append, length-drop}
+use Rattle.lib_base.proofs.Prelude.{take-length, take-append-drop, length-take-le, sets}
 use Rattle.lib_base.proofs.Prelude.{take-append-le, ltb, add-one, le-ltb, lt-ltb, arith}
 use native.Mathlib.Numerals.{add-two, add-three, add-four}
-use lib.Seq.{slice, sets-eq, length-sets, drop-append-le, slice_empty, slice-cons, length-slice, set_at, take-take, take_at, drop_at}
+use lib.Seq.{slice, sets-eq, length-sets, drop-append-le, length-slice, take-take, take_at, drop_at}
 use Rattle.lib_base.proofs.Tools.{by_test}
 use Rattle.lib_word.specs.Halves.{put_half}
-use Rattle.spec_language.specs.Grammar.{field}
+use Rattle.spec_language.specs.Grammar.{field, word}
+use Rattle.std.specs.Int as int
+use Rattle.std.proofs.Math.Seq.{paste}
+use Rattle.std.proofs.lemmas.List.{drop-take}
 use Rattle.sheet_write.specs.Writes.{fitted, header, shifted, as_application, as_field}
 
 -- ---- writes in a row
@@ -26,9 +29,6 @@ sets_onward o n (a ∷ u) v =
     let e : n + suc (length u) ≡ suc n + length u = omega arith in
     rw e (sets_onward (set o n a) (suc n) u v)
 
-pub four_in_a_row : (o : List ℕ) (n a b c d : ℕ) → set (set (set (set o n a) (n + 1) b) (n + 2) c) (n + 3) d ≡ sets o n (a ∷ b ∷ c ∷ d ∷ [])
-four_in_a_row o n a b c d = simp (add-one, add-two, add-three)
-
 pub header_written : (o : List ℕ) (n t l : ℕ) → put_half (set o n t) (n + 1) l ≡ sets o n (header t l)
 unfolding put_half
 header_written o n t l = let e : n + 1 + 1 ≡ n + 2 = omega arith in rw e (simp (add-one, add-two))
@@ -36,6 +36,18 @@ header_written o n t l = let e : n + 1 + 1 ≡ n + 2 = omega arith in rw e (simp
 -- a header and the value behind it are a field
 pub field_written : (o : List ℕ) (n t : ℕ) (v : List ℕ) → sets (sets o n (header t (length v))) (n + 3) v ≡ sets o n (field t v)
 field_written o n t v = sets_onward o n (header t (length v)) v
+
+-- the bytes of a slice put there at once
+pub value_pasted : (o : List ℕ) (n t : ℕ) (v : List ℕ) → n + 3 + length v ≤ length o
+    → paste (sets o n (header t (length v))) (n + 3) v (length v) ≡ sets o n (field t v)
+value_pasted o n t v h =
+    let s : List ℕ = sets o n (header t (length v)) in
+    let l : n + 3 + length v ≤ length s = rw (length-sets o n (header t (length v))) h in
+    ap (λ (x : List ℕ). take (n + 3) s ++ x ++ drop (n + 3 + length v) s) (take-length v) ∙ sym (sets-eq v s (n + 3) l) ∙ field_written o n t v
+
+-- the library's bytes of a word
+pub word_is : (w : ℕ) → w < 4294967296 → int.to_be_bytes int.w32 w ≡ word w
+word_is w h = let high : w / 16777216 % 256 ≡ w / 16777216 = omega arith in rw high
 
 -- ---- where they fit
 
@@ -60,18 +72,9 @@ none_fitted o n = by_test (λ (l : List ℕ). l ≡ o) (ltb (length o) (n + 0)) 
 
 -- ---- the fields of numbers
 
--- a pair's header and its two bytes
-pub pair_written : (o : List ℕ) (n t a b : ℕ) → set (set (sets o n (header t 2)) (n + 3) a) (n + 4) b ≡ sets o n (field t (a ∷ b ∷ []))
-pair_written o n t a b = simp (add-three, add-four)
-
 -- a handler's event and phase
 pub handler_written : (o : List ℕ) (n a b : ℕ) → set (set o (n + 3) a) (n + 4) b ≡ sets o (n + 3) (a ∷ b ∷ [])
 handler_written o n a b = simp (add-three, add-four)
-
--- a row's count and the field behind it
-pub count_written : (o : List ℕ) (n c : ℕ) (v : List ℕ) → n + suc (length v) ≤ length o → fitted (set o n c) (n + 1) v ≡ fitted o n (c ∷ v)
-count_written o n c v h =
-    fits (set o n c) (n + 1) v (simp length-set (omega arith)) ∙ rw (add-one n) (sym (fits o n (c ∷ v) h))
 
 -- ---- a header in front of its value
 
@@ -87,11 +90,6 @@ enclosed t n end o h g =
     (sets-eq (header t (end - n - 3)) o n (omega arith)
     ∙ rw (d, ← l) (simp append_assoc)
     ∙ sym (rw e at (sets-eq (field t v) o n (omega arith))))
-
-pub enclosed_long : (t n end : ℕ) (o : List ℕ) → length (as_field t n end o) ≡ length o
-unfolding as_field
-enclosed_long t n end o =
-    by_test (λ (l : List ℕ). length l ≡ length o) (ltb (length o) end) (λ e. refl) (λ e. length-sets o n (field t (slice (n + 3) end o)))
 
 -- a value that was written behind three bytes is in a field
 pub enclosed_taken : (t n end : ℕ) (o p v : List ℕ) → n + 3 ≤ end → end ≤ length o → length p ≡ length o → take end p ≡ take (n + 3) o ++ v
@@ -113,48 +111,13 @@ enclosed_taken t n end o p v h g l e =
 
 -- ---- the shift
 
-pub record Moved (start end : ℕ) (o₀ o : List ℕ) (i : ℕ) : Type 0 where
-  pub is : o ≡ shifted i end o₀
-  pub from : start ≤ i
-  pub to : i ≤ end
-  pub room : end + 4 ≤ length o₀
-  pub kept : length o ≡ length o₀
-
-none_moved : (end : ℕ) (o : List ℕ) → o ≡ shifted end end o
+pub shift_is : (start end : ℕ) (o : List ℕ) → start ≤ end → paste o (start + 4) (drop start o) (end - start) ≡ shifted start end o
 unfolding shifted
-none_moved end o = rw (slice_empty end o) (sym (take-append-drop (end + 4) o))
-
-pub moved_start : (start end : ℕ) (o : List ℕ) → start ≤ end → end + 4 ≤ length o → Moved start end o o end
-moved_start start end o h g = record { is = none_moved end o; from = h; to = omega arith; room = g; kept = refl }
-
-one_moved : (j end : ℕ) (o : List ℕ) → j < end → end + 4 ≤ length o → set (shifted (suc j) end o) (j + 4) (get_or o j 0) ≡ shifted j end o
-unfolding shifted
-one_moved j end o h g =
-    let r : List ℕ = slice (suc j) end o ++ drop (end + 4) o in
-    let s : take (suc j + 4) o ≡ take (j + 4) o ++ (get_or o (j + 4) 0 ∷ []) =
-    (let q : suc j + 4 ≡ suc (j + 4) = omega arith in rw q (take-suc o (j + 4) 0 (omega arith))) in
-    rw (s, append_assoc (take (j + 4) o) (get_or o (j + 4) 0 ∷ []) r)
-    (set_at (take (j + 4) o) (get_or o (j + 4) 0) r (get_or o j 0) (j + 4) (length-take-le (j + 4) o (omega arith))
-    ∙ rw (slice-cons j end o 0 h (omega arith)))
-
-still : (j end : ℕ) (o : List ℕ) → j < end → end + 4 ≤ length o → get_or (shifted (suc j) end o) j 0 ≡ get_or o j 0
-unfolding shifted
-still j end o h g =
-    List·getD-append (take (suc j + 4) o) (slice (suc j) end o ++ drop (end + 4) o) 0 j (rw (length-take-le (suc j + 4) o (omega arith)) (omega arith))
-    ∙ get_or-take (suc j + 4) o j 0 (omega arith)
-
-pub moved_turn : {start end : ℕ} {o₀ o : List ℕ} {i : ℕ} → Moved start end o₀ o i → start < i → Moved start end o₀ (set o (i - 1 + 4) (get_or o (i - 1) 0)) (i - 1)
-moved_turn {start} {end} {o₀} {o} {i} m h =
-    let b : i - 1 < end = omega (arith, m.to) in
-    let q : i ≡ suc (i - 1) = omega arith in
-    let e : o ≡ shifted (suc (i - 1)) end o₀ = m.is ∙ ap (λ (k : ℕ). shifted k end o₀) q in
-    record {
-      is = rw (e, still (i - 1) end o₀ b m.room) (one_moved (i - 1) end o₀ b m.room);
-      from = omega arith;
-      to = omega arith;
-      room = m.room;
-      kept = rw length-set m.kept;
-    }
+shift_is start end o h =
+    let e : start + 4 + (end - start) ≡ end + 4 = omega arith in
+    let w : start + (end - start) ≡ end = omega arith in
+    let q : take (end - start) (drop start o) ≡ slice start end o = sym (drop-take start (end - start) o) ∙ ap (λ (k : ℕ). slice start k o) w in
+    rw (q, e) (append_assoc (take (start + 4) o) (slice start end o) (drop (end + 4) o))
 
 pub shifted_long : (start end : ℕ) (o : List ℕ) → start ≤ end → end + 4 ≤ length o → length (shifted start end o) ≡ length o
 unfolding shifted

@@ -13,7 +13,8 @@ ghost use Rattle.sheet_write.specs.Places.{place_limit, row_place_limit};
 
 use sheet_field::{places, sizes, tags};
 
-// In place of the byte that says who may send or see, where there is none.
+// In place of the byte that says who may send or see, where there is none: a number, as the reader of the text hands it
+// on (source_declarations).
 pub const UNSAID: u64 = lib_word::BYTE_VALUES as u64;
 
 // Where a handler's event and phase stand in its field, and where a row's field 04 ends in its value.
@@ -22,13 +23,6 @@ const EVENT: usize = sizes::HEADER + places::EVENT;
 const PHASE: usize = sizes::HEADER + places::PHASE;
 
 const ROW_START: usize = places::START + sizes::WORD_FIELD;
-
-// What a word's bytes count, from the last but one on.
-const BYTE: u32 = lib_word::BYTE_VALUES;
-
-const HALF: u32 = lib_word::HALF_VALUES;
-
-const THREE_BYTES: u32 = lib_word::THREE_BYTE_VALUES;
 
 // The header of a field: its tag, and how many bytes its value has.
 fn put_header(out: &mut [u8], n: usize, tag: u8, bytes: usize)
@@ -40,15 +34,19 @@ fn put_header(out: &mut [u8], n: usize, tag: u8, bytes: usize)
     lib_word::put_half(out, n + places::LENGTH, bytes as u16);
 }
 
-// A word, the high byte first.
-fn put_high_first(out: &mut [u8], n: usize, w: u32)
-    requires { n + word_bytes ≤ length out.old }
-    ensures { out.new ≡ sets out.old n (word w) }
+// A field with its value: a number of one byte, an event's two, or a word.
+#[tactic(auto, using(lib_base::proofs::Pick::branches), unfolding(crate::specs::Writes::fitted))]
+fn put_field(out: &mut [u8], n: usize, tag: u8, value: &[u8])
+    requires n_le_place_limit { n ≤ place_limit }
+    requires value_bound { length value.now ≤ word_bytes }
+    ensures { out.new ≡ fitted out.old n (field tag value.now) }
 {
-    out[n] = (w / THREE_BYTES) as u8;
-    out[n + 1] = (w / HALF % BYTE) as u8;
-    out[n + 2] = (w / BYTE % BYTE) as u8;
-    out[n + 3] = (w % BYTE) as u8;
+    let at = n + sizes::HEADER;
+    if out.len() < at + value.len() {
+        return;
+    }
+    put_header(out, n, tag, value.len());
+    out[at..at + value.len()].copy_from_slice(value);
 }
 
 // A field of one byte: a name, a parameter, or who may see a behaviour.
@@ -56,39 +54,20 @@ pub fn put_byte_field(out: &mut [u8], n: usize, tag: u8, b: u8)
     requires { n ≤ place_limit }
     ensures { out.new ≡ fitted out.old n (field tag (b ∷ [])) }
 {
-    if out.len() < n + sizes::BYTE_FIELD {
-        return;
-    }
-    put_header(out, n, tag, sizes::BYTE);
-    out[n + sizes::HEADER] = b;
+    put_field(out, n, tag, &[b]);
 }
 
-// A field of a word: a constant or a start value.
+// A field of a word, the high byte first: a constant or a start value.
+#[tactic(auto, using(crate::proofs::Laws::word_is))]
 pub fn put_word_field(out: &mut [u8], n: usize, tag: u8, w: u32)
     requires { n ≤ place_limit }
     ensures { out.new ≡ fitted out.old n (field tag (word w)) }
 {
-    if out.len() < n + sizes::WORD_FIELD {
-        return;
-    }
-    put_header(out, n, tag, sizes::WORD);
-    put_high_first(out, n + sizes::HEADER, w);
-}
-
-// A field of two bytes: an event's, where it says who may send it.
-fn put_pair_field(out: &mut [u8], n: usize, tag: u8, a: u8, b: u8)
-    requires { n ≤ place_limit }
-    ensures { out.new ≡ fitted out.old n (field tag (a ∷ b ∷ [])) }
-{
-    if out.len() < n + sizes::PAIR_FIELD {
-        return;
-    }
-    put_header(out, n, tag, sizes::PAIR);
-    out[n + sizes::HEADER] = a;
-    out[n + sizes::BYTE_FIELD] = b;
+    put_field(out, n, tag, &w.to_be_bytes());
 }
 
 // An event's field, by its rank and who may send it; the place behind it.
+#[tactic(auto, using(lib_base::proofs::Pick::branches), unfolding(crate::specs::Writes::event_bytes))]
 pub fn put_event(out: &mut [u8], n: usize, rank: u8, senders: u64) -> usize
     requires { n ≤ place_limit }
     ensures value { result ≡ n + length (event_bytes rank senders) }
@@ -98,11 +77,12 @@ pub fn put_event(out: &mut [u8], n: usize, rank: u8, senders: u64) -> usize
         put_byte_field(out, n, tags::EVENT, rank);
         return n + sizes::BYTE_FIELD;
     }
-    put_pair_field(out, n, tags::EVENT, rank, (senders % UNSAID) as u8);
+    put_field(out, n, tags::EVENT, &[rank, (senders % UNSAID) as u8]);
     n + sizes::PAIR_FIELD
 }
 
 // Who may see a behaviour, where it is said; the place behind it.
+#[tactic(auto, using(lib_base::proofs::Pick::branches))]
 pub fn put_viewers(out: &mut [u8], n: usize, viewers: u64) -> usize
     requires n_le_place_limit { n ≤ place_limit }
     requires viewers_le_byte_values { viewers ≤ byte_values }
@@ -117,6 +97,7 @@ pub fn put_viewers(out: &mut [u8], n: usize, viewers: u64) -> usize
 }
 
 // A row's count of cells, where there are any, and the value that it or an active starts with; the place behind them.
+#[tactic(auto, using(lib_base::proofs::Pick::branches), unfolding(crate::specs::Writes::fitted))]
 pub fn put_start(out: &mut [u8], n: usize, w: u32, cells: usize) -> usize
     requires n_le_row_place_limit { n ≤ row_place_limit }
     requires cells_lt_byte_values { cells < byte_values }
@@ -136,6 +117,7 @@ pub fn put_start(out: &mut [u8], n: usize, w: u32, cells: usize) -> usize
 }
 
 // The event and the phase of the handler whose field begins at place n.
+#[tactic(auto, using(lib_base::proofs::Pick::branches), unfolding(crate::specs::Writes::fitted))]
 pub fn put_handler(out: &mut [u8], n: usize, event: u8, phase: u8)
     requires { n ≤ place_limit }
     ensures { out.new ≡ fitted out.old (n + 3) (event ∷ phase ∷ []) }
@@ -148,6 +130,7 @@ pub fn put_handler(out: &mut [u8], n: usize, event: u8, phase: u8)
 }
 
 // The header of the field from place n to `end`, in front of its value.
+#[tactic(auto, using(lib_base::proofs::Pick::branches), unfolding(crate::specs::Writes::as_field))]
 pub fn enclose(out: &mut [u8], n: usize, end: usize, tag: u8)
     requires n_bound { n + 3 ≤ end }
     requires out_len_bound { length out.old ≤ longest_value }
@@ -159,20 +142,17 @@ pub fn enclose(out: &mut [u8], n: usize, end: usize, tag: u8)
     put_header(out, n, tag, end - n - sizes::HEADER);
 }
 
-// The bytes from `start` to `end` go on by an application's head, the last first.
+// The bytes from `start` to `end` go on by an application's head.
 fn shift(out: &mut [u8], start: usize, end: usize)
     requires start_le_end { start ≤ end }
     requires word_bytes_in_bounds { end + word_bytes ≤ length out.old }
     ensures { out.new ≡ shifted start end out.old }
 {
-    let mut i = end;
-    while start < i {
-        i = i - 1;
-        out[i + sizes::BYTE_HEAD] = out[i];
-    }
+    out.copy_within(start..end, start + sizes::BYTE_HEAD);
 }
 
 // The arguments from `start` to `end` become an application of function f.
+#[tactic(auto, using(lib_base::proofs::Pick::branches), unfolding(crate::specs::Writes::as_application))]
 pub fn wrap_application(out: &mut [u8], start: usize, end: usize, f: u8)
     requires start_le_end { start ≤ end }
     requires end_le_place_limit { end ≤ place_limit }

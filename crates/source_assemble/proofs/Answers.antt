@@ -1,7 +1,10 @@
--- What the two runs find is what `assemble_on` answers. A fault's word comes apart into kind and place; a fault of the
+-- What the two runs find is what `assemble_on` answers. A fault has its kind and its place; a fault of the
 -- first pass is `read_text`'s; with the names that the first run found each name means what the text declares, so that
 -- the second run finds the fault of `sheet_of`, or writes its sheet.
-use Rattle.lib_base.proofs.Prelude.{ℕ, ◌≤◌, ◌<◌, ◌+◌, ◌-◌, suc, zero, ◌*◌, ◌%◌, ◌/◌, ◌≡◌, refl, ◌∙◌, sym, ap, List}
+use Rattle.std.specs.Prelude.{Option, None, Some, Err}
+use Rattle.source_coding.specs.declared.faults.Fault.{Fault}
+use Rattle.source_coding.proofs.KindNumbers.{number_of_kind}
+use Rattle.lib_base.proofs.Prelude.{ℕ, ◌≤◌, ◌<◌, ◌+◌, ◌-◌, suc, zero, ◌≡◌, refl, ◌∙◌, sym, ap, List}
 use Rattle.lib_base.proofs.Prelude.{◌++◌, map, length, take, drop, replicate, length-take-le}
 use Rattle.lib_base.proofs.Prelude.{ltb, le-ltb, lt-ltb, ltb-false, arith}
 use Rattle.lib_base.specs.Basics.{All}
@@ -11,63 +14,40 @@ use Rattle.spec_language.specs.Sheet.{Entry}
 use Rattle.spec_language.specs.Reading.{sheet}
 use Rattle.spec_language.specs.Grammar.{encode}
 use Rattle.source_language.specs.Text.{Parameter, TextEvent, TextBehaviour, Text, text}
-use Rattle.source_language.specs.Faults.{Kind, outside, too_large, off_scale, too_many_fault, declared_twice_fault, second_handler_fault, too_deep, unknown_name, no_such_cell_fault, long_sheet_fault, short_buffer_fault, long_text_fault, OrFault, fault, fine, and_then}
+use Rattle.source_language.specs.Faults.{Kind, long_sheet_fault, short_buffer_fault, long_text_fault, OrFault, fault, fine, and_then}
 use Rattle.source_language.specs.Meaning.{NameMeaning, meaning_of_name, entries_of, signal_of, sheet_of}
 use Rattle.source_language.specs.Reader.{read_text}
 use Rattle.source_language.specs.Answer.{line_from, column_from, turned_down}
 use Rattle.source_language.specs.Assembled.{length_judged, assembled, assemble_on}
-use Rattle.source_coding.specs.Faults.{fault_number, outcome_number}
-use Rattle.source_coding.specs.FaultWords.{fault_word, fault_in}
+use Rattle.source_coding.specs.Faults.{outcome_number}
+use Rattle.source_coding.specs.FaultWords.{fault_of, fault_in}
 use Rattle.source_coding.specs.Places.{meaning_in}
 use Rattle.source_coding.specs.Sizes.{text_size}
 use Rattle.source_coding.proofs.Lengths.{sheet_takes}
 use Rattle.source_names.specs.Known.{meaning_by}
 use Rattle.source_index.specs.Index.{MeaningsPut, AllFound}
 use Rattle.source_index.proofs.Laws.{known_sorted, known_plain}
-use Rattle.source_behaviours.specs.Whole.{NamesUsable, LookupUsable, TextRead}
-use Rattle.source_behaviours.specs.declared.Reading.TheVariants.{Read, Fault}
+use Rattle.source_behaviours.specs.Whole.{read_so, NamesUsable, LookupUsable, TextRead}
 use Rattle.source_hint.specs.Hint.{HintUsable, HintRight}
 use Rattle.source_assemble.specs.AssembleNumber.{assemble_number}
 use Rattle.source_assemble.specs.Assemble.{place_told, fault_numbered, TellsFault, NamesResolved, sheet_answer, ReadRight}
 use Rattle.source_assemble.proofs.Within.{first_pass_within, names_within}
-use Rattle.source_assemble.proofs.Numbers.{kind_some}
 
--- ---- a fault's word
+-- ---- a fault
 
-kind_few : (k : Kind) → fault_number k ≤ 42
-kind_few outside = omega arith
-kind_few too_large = omega arith
-kind_few off_scale = omega arith
-kind_few too_many_fault = omega arith
-kind_few declared_twice_fault = omega arith
-kind_few second_handler_fault = omega arith
-kind_few too_deep = omega arith
-kind_few unknown_name = omega arith
-kind_few no_such_cell_fault = omega arith
-kind_few long_sheet_fault = omega arith
-kind_few short_buffer_fault = omega arith
-kind_few long_text_fault = omega arith
+pub tells : (k : Kind) (p long : ℕ) → p ≤ long → long ≤ 65536 → TellsFault long (fault_of k p)
+tells k p long h few = record { a_place = h; low = omega arith }
 
--- n and p out of n * 2 ^ 32 + p
-apart : (n p : ℕ) → p ≤ 65536 → ((n * 4294967296 + p) / 4294967296 ≡ n) × ((n * 4294967296 + p) % 4294967296 ≡ p)
-apart n p h = (omega arith, omega arith)
-
-pub tells : (k : Kind) (p long : ℕ) → p ≤ long → long ≤ 65536 → TellsFault long (fault_word k p)
-tells k p long h few =
-    let a = apart (fault_number k) p (omega arith) in
-    record { a_kind = omega (arith, a.0, kind_few k); a_place = omega (arith, a.1); low = omega (arith, a.1) }
-
-told_is : (bytes : List ℕ) (k : Kind) (p : ℕ) → p ≤ 65536
-    → fault_numbered bytes (fault_word k p) ≡ outcome_number (turned_down k (line_from 1 p bytes) (column_from 1 p bytes))
+told_is : (bytes : List ℕ) (k : Kind) (p : ℕ) → fault_numbered bytes (fault_of k p) ≡ outcome_number (turned_down k (line_from 1 p bytes) (column_from 1 p bytes))
 unfolding place_told
-told_is bytes k p h = let a = apart (fault_number k) p h in rw (a.0, a.1)
+told_is bytes k p = rw (number_of_kind k)
 
 pub fault_answer : (bytes buffer : List ℕ) (k : Kind) (p : ℕ) → p ≤ 65536 → assembled bytes (length buffer) ≡ fault k p
-    → answered (fault_numbered bytes (fault_word k p)) buffer ≡ assemble_number bytes buffer
+    → answered (fault_numbered bytes (fault_of k p)) buffer ≡ assemble_number bytes buffer
 unfolding assemble_number assemble_on
-fault_answer bytes buffer k p h e = rw (e, told_is bytes k p h)
+fault_answer bytes buffer k p h e = rw (e, told_is bytes k p)
 
-pub long_answer : (bytes buffer : List ℕ) → 65536 < length bytes → answered (fault_numbered bytes (fault_word long_text_fault 65536)) buffer ≡ assemble_number bytes buffer
+pub long_answer : (bytes buffer : List ℕ) → 65536 < length bytes → answered (fault_numbered bytes (fault_of long_text_fault 65536)) buffer ≡ assemble_number bytes buffer
 unfolding assembled
 long_answer bytes buffer h = fault_answer bytes buffer long_text_fault 65536 (omega arith) (rw (lt-ltb 65536 (length bytes) h))
 
@@ -135,30 +115,30 @@ pub record NamesLeft (bytes names starts : List ℕ) (params count : ℕ) (x : O
   pub usable : NamesUsable (take (count - 0) names) params starts
   pub known : NamesResolved bytes (meaning_in bytes (take (count - 0) names) params starts) x
 
-module _ (bytes : List ℕ) (find : List ℕ → NameMeaning) (o p names starts : List ℕ) (end params count w : ℕ) where
-  left_by : (x : OrFault Text) → TextRead bytes find o p names starts (Read end params count w) x → NamesLeft bytes names starts params count x
+module _ (bytes : List ℕ) (find : List ℕ → NameMeaning) (o p names starts : List ℕ) (end params count : ℕ) (w : Option Fault) where
+  left_by : (x : OrFault Text) → TextRead bytes find o p names starts (read_so end params count w) x → NamesLeft bytes names starts params count x
   left_by (fault k at) t = absurd t
   left_by (fine (text ps es bs)) t =
       let z : count - 0 ≡ count = omega arith in record { counted = t.counted; usable = rw z t.usable; known = rw z t.known }
 
-  pub names_left : TextRead bytes find o p names starts (Read end params count w) (read_text bytes) → NamesLeft bytes names starts params count (read_text bytes)
+  pub names_left : TextRead bytes find o p names starts (read_so end params count w) (read_text bytes) → NamesLeft bytes names starts params count (read_text bytes)
   names_left = left_by (read_text bytes)
 
 module _ (bytes buffer : List ℕ) (few : length bytes ≤ 65536) where
-  abbrev Told : ℕ → Type 0
+  abbrev Told : Fault → Type 0
   Told w = TellsFault (length bytes) w × (answered (fault_numbered bytes w) buffer ≡ assemble_number bytes buffer)
 
-  told : (k : Kind) (p w : ℕ) → p ≤ length bytes → assembled bytes (length buffer) ≡ fault k p → w ≡ fault_word k p → Told w
+  told : (k : Kind) (p : ℕ) (w : Fault) → p ≤ length bytes → assembled bytes (length buffer) ≡ fault k p → w ≡ fault_of k p → Told w
   told k p w h e q = rw q (tells k p (length bytes) h few, fault_answer bytes buffer k p (omega arith) e)
 
-  first_fault_law : (x : OrFault Text) → read_text bytes ≡ x → (find : List ℕ → NameMeaning) (o p names starts : List ℕ) (w : ℕ) → TextRead bytes find o p names starts (Fault w) x
+  first_fault_law : (x : OrFault Text) → read_text bytes ≡ x → (find : List ℕ → NameMeaning) (o p names starts : List ℕ) (w : Fault) → TextRead bytes find o p names starts (Err w) x
       → Told w
   unfolding assembled
   first_fault_law (fault k at) e find o p names starts w q =
       told k at w (first_pass_within bytes k at e) (rw (le-ltb 65536 (length bytes) few, e)) q
   first_fault_law (fine x) e find o p names starts w q = absurd q
 
-  pub fault_found : (find : List ℕ → NameMeaning) (o p names starts : List ℕ) (w : ℕ) → TextRead bytes find o p names starts (Fault w) (read_text bytes) → Told w
+  pub fault_found : (find : List ℕ → NameMeaning) (o p names starts : List ℕ) (w : Fault) → TextRead bytes find o p names starts (Err w) (read_text bytes) → Told w
   fault_found = first_fault_law (read_text bytes) refl
 
   -- ---- the second run
@@ -172,9 +152,9 @@ module _ (bytes buffer : List ℕ) (few : length bytes ≤ 65536) where
     unfolding assembled sheet_of
     judged r e room = rw (le-ltb 65536 (length bytes) few, reads, e)
 
-    name_fault : (r : OrFault (List Entry)) → Entries ≡ r → (w : ℕ) → w ≡ fault_in r → (w ≡ 0 → ⊥) → Told w
-    name_fault (fault k p) e w q h = told k p w (names_within bytes ps es bs reads (meaning_of_name 0 ps bs) k p e) (judged (fault k p) e (length buffer)) q
-    name_fault (fine xs) e w q h = absurd (h q)
+    name_fault : (r : OrFault (List Entry)) → Entries ≡ r → (w : Fault) → Some w ≡ fault_in r → Told w
+    name_fault (fault k p) e w q = told k p w (names_within bytes ps es bs reads (meaning_of_name 0 ps bs) k p e) (judged (fault k p) e (length buffer)) cc
+    name_fault (fine xs) e w q = let z : ◌≡◌ {A = ℕ} 0 1 = cc in absurd (omega arith)
 
     written_out : (xs : List Entry) → Entries ≡ fine xs → (out : List ℕ) (n : ℕ) → n ≡ text_size (text ps es bs) → (n ≤ 8192 → take n out ≡ encode (sheet (map signal_of es) xs))
         → sheet_answer bytes n out buffer ≡ assemble_number bytes buffer
@@ -192,25 +172,25 @@ module _ (bytes buffer : List ℕ) (few : length bytes ≤ 65536) where
       → entries_of es find bs ≡ entries_of es (meaning_of_name 0 ps bs) bs
   same_entries find ps es bs known = ap (λ (f : List ℕ → NameMeaning). entries_of es f bs) (alike known)
 
-  module _ (find : List ℕ → NameMeaning) (o p names starts : List ℕ) (end params' count w : ℕ) where
+  module _ (find : List ℕ → NameMeaning) (o p names starts : List ℕ) (end params' count : ℕ) (w : Option Fault) where
     abbrev SecondRun : OrFault Text → Type 0
-    SecondRun x = TextRead bytes find o p names starts (Read end params' count w) x
+    SecondRun x = TextRead bytes find o p names starts (read_so end params' count w) x
 
-    fault_of_name : (x : OrFault Text) → read_text bytes ≡ x → NamesResolved bytes find x → SecondRun x → (w ≡ 0 → ⊥) → Told w
-    fault_of_name (fault k at) e known t h = absurd known
-    fault_of_name (fine (text ps es bs)) e known t h =
+    fault_of_name : (x : OrFault Text) → read_text bytes ≡ x → NamesResolved bytes find x → SecondRun x → (f : Fault) → w ≡ Some f → Told f
+    fault_of_name (fault k at) e known t f h = absurd known
+    fault_of_name (fine (text ps es bs)) e known t f h =
         let same = same_entries find ps es bs known in
-        name_fault ps es bs e (entries_of es (meaning_of_name 0 ps bs) bs) refl w (t.fault ∙ rw same) h
+        name_fault ps es bs e (entries_of es (meaning_of_name 0 ps bs) bs) refl f (sym h ∙ t.fault ∙ rw same)
 
-    pub name_found : NamesResolved bytes find (read_text bytes) → SecondRun (read_text bytes) → (w ≡ 0 → ⊥) → Told w
+    pub name_found : NamesResolved bytes find (read_text bytes) → SecondRun (read_text bytes) → (f : Fault) → w ≡ Some f → Told f
     name_found = fault_of_name (read_text bytes) refl
 
-    -- no fault is 0
-    fault_some : (k : Kind) (at : ℕ) → w ≡ fault_word k at → w ≡ 0 → ⊥
-    fault_some k at q z = omega (arith, kind_some k)
+    -- a fault is one
+    fault_some : (k : Kind) (at : ℕ) → w ≡ Some (fault_of k at) → w ≡ None → ⊥
+    fault_some k at q z = let y : ◌≡◌ {A = ℕ} 0 1 = cc in omega arith
 
     all_written : (ps : List Parameter) (es : List TextEvent) (bs : List TextBehaviour) → read_text bytes ≡ fine (text ps es bs)
-        → ((s : List ℕ) → find s ≡ meaning_of_name 0 ps bs s) → SecondRun (fine (text ps es bs)) → length o ≡ 8192 → w ≡ 0
+        → ((s : List ℕ) → find s ≡ meaning_of_name 0 ps bs s) → SecondRun (fine (text ps es bs)) → length o ≡ 8192 → w ≡ None
         → (r : OrFault (List Entry)) → entries_of es (meaning_of_name 0 ps bs) bs ≡ r → sheet_answer bytes end p buffer ≡ assemble_number bytes buffer
     all_written ps es bs e known t long z (fault k at) f =
         let same = same_entries find ps es bs known in absurd (fault_some k at (t.fault ∙ rw (same, f)) z)
@@ -218,19 +198,19 @@ module _ (bytes buffer : List ℕ) (few : length bytes ≤ 65536) where
         let same = same_entries find ps es bs known in
         written_out ps es bs e xs f p end t.size (λ h. t.written xs (same ∙ f) (omega arith))
 
-    sheet_of_law : (x : OrFault Text) → read_text bytes ≡ x → NamesResolved bytes find x → SecondRun x → length o ≡ 8192 → w ≡ 0
+    sheet_of_law : (x : OrFault Text) → read_text bytes ≡ x → NamesResolved bytes find x → SecondRun x → length o ≡ 8192 → w ≡ None
         → sheet_answer bytes end p buffer ≡ assemble_number bytes buffer
     sheet_of_law (fault k at) e known t long z = absurd known
     sheet_of_law (fine (text ps es bs)) e known t long z = all_written ps es bs e known t long z (entries_of es (meaning_of_name 0 ps bs) bs) refl
 
-    pub sheet_written : NamesResolved bytes find (read_text bytes) → SecondRun (read_text bytes) → length o ≡ 8192 → w ≡ 0
+    pub sheet_written : NamesResolved bytes find (read_text bytes) → SecondRun (read_text bytes) → length o ≡ 8192 → w ≡ None
         → sheet_answer bytes end p buffer ≡ assemble_number bytes buffer
     sheet_written = sheet_of_law (read_text bytes) refl
 
     -- with the right names
     pub read_right : length o ≡ 8192 → NamesResolved bytes find (read_text bytes) → SecondRun (read_text bytes) → ReadRight bytes buffer p end w
     read_right long known t =
-        record { tells = λ h. (name_found known t h).0; at_fault = λ h. (name_found known t h).1; sheet = sheet_written known t long }
+        record { tells = λ f h. (name_found known t f h).0; at_fault = λ f h. (name_found known t f h).1; sheet = sheet_written known t long }
 
 -- the names of a hint that the text turns out to declare
 pub right_names : (bytes names : List ℕ) (params : ℕ) (firsts declared : List ℕ) (parameters : ℕ) (starts : List ℕ) → HintRight names params firsts declared parameters starts

@@ -1,5 +1,5 @@
 -- What the runs of the reading hand to each other, and what assemble answers by it.
-use Rattle.std.specs.Prelude.{ℕ, ◌+◌, ◌*◌, ◌/◌, ◌%◌, ◌≤◌, ◌≡◌, List, ◌++◌, length, take, drop, ltb, eqb}
+use Rattle.std.specs.Prelude.{Option, None, Some, ℕ, ◌+◌, ◌*◌, ◌≤◌, ◌≡◌, List, ◌++◌, length, take, drop, ltb, eqb}
 use Rattle.lib_base.specs.Basics.{pick, All}
 use Rattle.spec_language.specs.Limits.{behaviour_limit, sheet_bytes}
 use Rattle.text_formula.specs.Answer.{answered}
@@ -8,7 +8,8 @@ use Rattle.source_language.specs.Faults.{long_sheet_fault, short_buffer_fault, O
 use Rattle.source_language.specs.Meaning.{NameMeaning, meaning_of_name}
 use Rattle.source_language.specs.Answer.{line_from, column_from}
 use Rattle.source_coding.specs.Bounds.{name_limit, first_cells}
-use Rattle.source_coding.specs.FaultWords.{fault_word}
+use Rattle.source_coding.specs.FaultWords.{number, fault_of}
+use Rattle.source_coding.specs.declared.faults.Fault.{Fault}
 use Rattle.source_assemble.specs.AssembleNumber.{assemble_number}
 
 -- room for what a text declares, its names and the numbers of first cells, and for a sheet
@@ -27,15 +28,14 @@ column_after c b = pick (eqb b 10) 1 (c + 1)
 unfoldable pub place_told : List ℕ → ℕ → ℕ
 place_told bytes p = line_from 1 p bytes * 268435456 + column_from 1 p bytes
 
--- a fault's word with line and column in place of the place
-abbrev pub fault_numbered : List ℕ → ℕ → ℕ
-fault_numbered bytes w = w / 4294967296 * 72057594037927936 + place_told bytes (w % 4294967296)
+-- a fault in one number, by its kind, line and column
+abbrev pub fault_numbered : List ℕ → Fault → ℕ
+fault_numbered bytes f = number f.kind * 72057594037927936 + place_told bytes f.place
 
--- a word that stands for a fault in a text of so many bytes
-pub record TellsFault (long w : ℕ) : Type 0 where
-  pub a_kind : w / 4294967296 ≤ 42
-  pub a_place : w % 4294967296 ≤ long
-  pub low : w % 4294967296 ≤ 65536
+-- a fault in a text of so many bytes
+pub record TellsFault (long : ℕ) (f : Fault) : Type 0 where
+  pub a_place : f.place ≤ long
+  pub low : f.place ≤ 65536
 
 -- names mean what the text declares them to
 abbrev pub NamesResolved : List ℕ → (List ℕ → NameMeaning) → OrFault Text → Type 0
@@ -46,12 +46,12 @@ NamesResolved bytes find (fine (text ps es bs)) = (s : List ℕ) → find s ≡ 
 -- is too short", at the end of the text
 abbrev pub sheet_answer : List ℕ → ℕ → List ℕ → List ℕ → ℕ × List ℕ
 sheet_answer bytes n out buffer =
-    pick (ltb 8192 n) (answered (fault_numbered bytes (fault_word long_sheet_fault (length bytes))) buffer)
-    (pick (ltb (length buffer) n) (answered (fault_numbered bytes (fault_word short_buffer_fault (length bytes))) buffer)
+    pick (ltb 8192 n) (answered (fault_numbered bytes (fault_of long_sheet_fault (length bytes))) buffer)
+    (pick (ltb (length buffer) n) (answered (fault_numbered bytes (fault_of short_buffer_fault (length bytes))) buffer)
     (answered (4294967296 + n) (take n out ++ drop n buffer)))
 
 -- what a reading found that had the right names is the answer: the end of the sheet's bytes, and a name's first fault
-pub record ReadRight (bytes buffer out : List ℕ) (end w : ℕ) : Type 0 where
-  pub tells : (w ≡ 0 → ⊥) → TellsFault (length bytes) w
-  pub at_fault : (w ≡ 0 → ⊥) → answered (fault_numbered bytes w) buffer ≡ assemble_number bytes buffer
-  pub sheet : w ≡ 0 → sheet_answer bytes end out buffer ≡ assemble_number bytes buffer
+pub record ReadRight (bytes buffer out : List ℕ) (end : ℕ) (w : Option Fault) : Type 0 where
+  pub tells : (f : Fault) → w ≡ Some f → TellsFault (length bytes) f
+  pub at_fault : (f : Fault) → w ≡ Some f → answered (fault_numbered bytes f) buffer ≡ assemble_number bytes buffer
+  pub sheet : w ≡ None → sheet_answer bytes end out buffer ≡ assemble_number bytes buffer

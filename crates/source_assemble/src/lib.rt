@@ -17,15 +17,13 @@ ghost use Rattle.source_coding.specs.Faults.{kind_unit};
 ghost use Rattle.spec_language.specs.Limits.{sheet_bytes};
 
 use source_behaviours::Reading;
+use source_coding::faults::{Fault, Kind};
 use source_coding::{faults, limits};
 use source_hint::{hint_of, is_right};
 use spec_language::{answers, limits as sheet};
 
 // What ends a line.
 const LINE_FEED: u8 = 10;
-
-// A text longer than a text may be, told where it should have ended.
-const LONG_TEXT: u64 = faults::LONG_TEXT * faults::KIND + (limits::TEXT_BYTES as u64);
 
 // The line and the column after a byte.
 fn line_after(line: u64, b: u8) -> u64
@@ -68,13 +66,12 @@ fn place_told(text: &[u8], place: usize) -> u64
     line * faults::TOLD_LINE + column
 }
 
-// A fault's word as the call answers it.
-fn fault_told(text: &[u8], w: u64) -> u64
-    requires { TellsFault (length text.now) w }
-    ensures { result ≡ fault_numbered text.now w }
+// A fault as the call answers it.
+fn fault_told(text: &[u8], fault: Fault) -> u64
+    requires { TellsFault (length text.now) fault }
+    ensures { result ≡ fault_numbered text.now fault }
 {
-    let place = place_told(text, (w % faults::KIND) as usize);
-    w / faults::KIND * faults::TOLD_KIND + place
+    fault.kind.number() * faults::TOLD_KIND + place_told(text, fault.place)
 }
 
 // The sheet's n bytes to the buffer, unless they are too many for a sheet or for the buffer.
@@ -86,13 +83,19 @@ fn put_result(text: &[u8], n: usize, out: &[u8], buffer: &mut [u8]) -> u64
     if sheet::SHEET_BYTES < n {
         return fault_told(
             text,
-            faults::LONG_SHEET * faults::KIND + (text.len() as u64),
+            Fault {
+                kind: Kind::LongSheet,
+                place: text.len(),
+            },
         );
     }
     if buffer.len() < n {
         return fault_told(
             text,
-            faults::SHORT_BUFFER * faults::KIND + (text.len() as u64),
+            Fault {
+                kind: Kind::ShortBuffer,
+                place: text.len(),
+            },
         );
     }
     buffer[..n].copy_from_slice(&out[0..n]);
@@ -100,14 +103,14 @@ fn put_result(text: &[u8], n: usize, out: &[u8], buffer: &mut [u8]) -> u64
 }
 
 // What a reading found that had the right names: the first fault of a name, or the sheet.
-fn put_read(text: &[u8], end: usize, w: u64, out: &[u8], buffer: &mut [u8]) -> u64
+fn put_read(text: &[u8], end: usize, stray: Option<Fault>, out: &[u8], buffer: &mut [u8]) -> u64
     requires text_len_bound { length text.now ≤ text_bytes }
     requires out_len { length out.now ≡ sheet_bytes }
-    requires read_right { ReadRight text.now buffer.old out.now end w }
+    requires read_right { ReadRight text.now buffer.old out.now end stray }
     ensures { answered result buffer.new ≡ assemble_number text.now buffer.old }
 {
-    if w != 0 {
-        return fault_told(text, w);
+    if let Some(fault) = stray {
+        return fault_told(text, fault);
     }
     put_result(text, end, out, buffer)
 }
@@ -122,7 +125,7 @@ fn read_with(
     declared: &mut [usize],
     starts: &mut [usize],
     out: &mut [u8],
-) -> Reading
+) -> Result<Reading, Fault>
     requires text_len_bound { length text.now ≤ text_bytes }
     requires names_usable { NamesUsable names.now params firsts.now }
     requires room_to_read { RoomToRead declared.old starts.old out.old }
@@ -160,10 +163,9 @@ fn second_run(
 {
     let mut declared = [0usize; limits::NAMES];
     let mut starts = [0usize; limits::FIRST_CELLS];
-    let r = read_with(text, names, params, firsts, &mut declared, &mut starts, out);
-    match r {
-        Reading::Fault(w) => fault_told(text, w),
-        Reading::Read(end, _, _, w) => put_read(text, end, w, out, buffer),
+    match read_with(text, names, params, firsts, &mut declared, &mut starts, out) {
+        Err(fault) => fault_told(text, fault),
+        Ok(reading) => put_read(text, reading.end, reading.stray, out, buffer),
     }
 }
 
@@ -183,7 +185,7 @@ fn first_run(
     let mut declared = [0usize; limits::NAMES];
     let mut starts = [0usize; limits::FIRST_CELLS];
     let mut out = [0u8; sheet::SHEET_BYTES];
-    let r = read_with(
+    match read_with(
         text,
         names,
         params,
@@ -191,28 +193,14 @@ fn first_run(
         &mut declared,
         &mut starts,
         &mut out,
-    );
-    match r {
-        Reading::Fault(w) => fault_told(text, w),
-        Reading::Read(end, parameters, count, w) => {
-            if is_right(
-                names,
-                params,
-                firsts,
-                &declared[0..count],
-                parameters,
-                &starts,
-            ) {
-                return put_read(text, end, w, &out, buffer);
+    ) {
+        Err(fault) => fault_told(text, fault),
+        Ok(reading) => {
+            let found = &declared[0..reading.count];
+            if is_right(names, params, firsts, found, reading.params, &starts) {
+                return put_read(text, reading.end, reading.stray, &out, buffer);
             }
-            second_run(
-                text,
-                &declared[0..count],
-                parameters,
-                &starts,
-                &mut out,
-                buffer,
-            )
+            second_run(text, found, reading.params, &starts, &mut out, buffer)
         }
     }
 }
@@ -222,7 +210,13 @@ pub fn assemble_at(text: &[u8], buffer: &mut [u8]) -> u64
     ensures { answered result buffer.new ≡ assemble_number text.now buffer.old }
 {
     if limits::TEXT_BYTES < text.len() {
-        return fault_told(text, LONG_TEXT);
+        return fault_told(
+            text,
+            Fault {
+                kind: Kind::LongText,
+                place: limits::TEXT_BYTES,
+            },
+        );
     }
     let mut names = [0usize; limits::NAMES];
     let mut firsts = [0usize; limits::FIRST_CELLS];

@@ -1,6 +1,12 @@
 -- A behaviour from behind its first word on, stage by stage: the answers of `behaviour_at`, and what is known of the
 -- behaviour beside its bytes.
-use Rattle.lib_base.proofs.Prelude.{ℕ, ◌≤◌, ◌<◌, ◌+◌, ◌*◌, ◌≡◌, refl, ◌∙◌, sym, ◌||◌, Option, List, [], ◌∷◌, eqb, ltb}
+use Rattle.std.specs.Prelude.{Err}
+use Rattle.std.specs.Prelude as Code
+use Rattle.source_coding.specs.declared.faults.Fault.{Fault}
+use Rattle.source_coding.specs.FaultWords.{fault_of}
+use Rattle.source_language.specs.Faults.{too_many_fault}
+use Rattle.source_due.specs.Due.{found}
+use Rattle.lib_base.proofs.Prelude.{ℕ, ◌≤◌, ◌<◌, ◌+◌, ◌≡◌, refl, ◌∙◌, sym, ◌||◌, Option, List, ◌∷◌, eqb, ltb, []}
 use Rattle.lib_base.proofs.Prelude.{eqb-true, ltb-false, eqb-false, lt-leb, le-leb, arith}
 use Rattle.lib_base.proofs.Tools.{by_test, split, none_of}
 use Rattle.source_language.specs.Tokens.{SheetToken, number, name, sign, equals, bracket, unbracket, passive_word, row_word}
@@ -9,13 +15,9 @@ use Rattle.source_language.specs.Limits.{largest, after_all, with_event, taken}
 use Rattle.source_language.specs.Meaning.{NameMeaning}
 use Rattle.source_language.specs.Reader.{Phrased, bad, got, then_phrase, sign_at, tokens_after, past_sign, value_of, formula_of, seen_of, read_reactions, passive_declared, state_of, kind_declared, behaviour_declared}
 use Rattle.source_coding.specs.Places.{tokens_from, name_at, names_held}
-use Rattle.source_due.specs.declared.Due.TheVariants as D
-use Rattle.source_handlers.specs.declared.Part.TheVariants as P
-use Rattle.source_handlers.specs.Parts.{PartAgrees, DueRead}
-use Rattle.source_behaviours.specs.declared.Behaviour.{Behaviour}
-use Rattle.source_behaviours.specs.declared.Behaviour.TheVariants.{Done, Fault}
+use Rattle.source_handlers.specs.Parts.{part, PartAgrees, DueRead}
 use Rattle.source_body.specs.Body.{behaviour_coding, body_made, kind_read, KindRead}
-use Rattle.source_behaviours.specs.Behaviours.{new_name, closed_cells, counted_cells, cells_said, numbers_taken, name_of_behaviour, cells_of_behaviour, RowTold, NamedAt, CountIs, BehaviourAgrees, BehaviourRead}
+use Rattle.source_behaviours.specs.Behaviours.{BehaviourDue, behaved, new_name, closed_cells, counted_cells, cells_said, numbers_taken, name_of_behaviour, cells_of_behaviour, RowTold, NamedAt, CountIs, BehaviourAgrees, BehaviourRead}
 use Rattle.source_behaviours.proofs.Steps.{kind_steps, name_steps}
 
 -- ---- what its count tells
@@ -78,28 +80,28 @@ kind_told es s c k ts t =
 -- ---- stages
 
 module _ (es : List TextEvent) (find : List ℕ → NameMeaning) (text : List ℕ) (n : ℕ) (o p : List ℕ) where
-  due_refused : {A : Type 0} (Q : ℕ → ℕ → A → Type 0) (w : ℕ) (x : Phrased A) (h : A → List SheetToken → Phrased TextBehaviour) → DueRead Q text (D.Fault w) x
-      → BehaviourAgrees es find text n o p (Fault w) (then_phrase x h)
+  due_refused : {A : Type 0} (Q : ℕ → ℕ → A → Type 0) (w : Fault) (x : Phrased A) (h : A → List SheetToken → Phrased TextBehaviour) → DueRead Q text (Err w) x
+      → BehaviourAgrees es find text n o p (Err w) (then_phrase x h)
   due_refused Q w (bad j i) h e = e
   due_refused Q w (got a us) h e = absurd e
 
-  due_onward : {A : Type 0} (Q : ℕ → ℕ → A → Type 0) (i v next : ℕ) (r : Behaviour) (x : Phrased A) (h : A → List SheetToken → Phrased TextBehaviour) → DueRead Q text (D.Found i v next) x
+  due_onward : {A : Type 0} (Q : ℕ → ℕ → A → Type 0) (i v next : ℕ) (r : BehaviourDue) (x : Phrased A) (h : A → List SheetToken → Phrased TextBehaviour) → DueRead Q text (found i v next) x
       → ((a : A) → Q i v a → BehaviourAgrees es find text n o p r (h a (tokens_from text next))) → BehaviourAgrees es find text n o p r (then_phrase x h)
   due_onward Q i v next r (bad j l) h e g = absurd e
   due_onward Q i v next r (got a us) h e g = rw e.0 (g a e.1)
 
   -- with what the count tells
-  cells_onward_so : (c i v next : ℕ) (r : Behaviour) (x : Phrased ℕ) (h : ℕ → List SheetToken → Phrased TextBehaviour) → CellsSo c x → DueRead CountIs text (D.Found i v next) x
+  cells_onward_so : (c i v next : ℕ) (r : BehaviourDue) (x : Phrased ℕ) (h : ℕ → List SheetToken → Phrased TextBehaviour) → CellsSo c x → DueRead CountIs text (found i v next) x
       → (CellsTold c v → BehaviourAgrees es find text n o p r (h v (tokens_from text next))) → BehaviourAgrees es find text n o p r (then_phrase x h)
   cells_onward_so c i v next r (bad j l) h s e g = absurd e
   cells_onward_so c i v next r (got k us) h s e g = rw (e.0, sym e.1) (g (rw (sym e.1) at s))
 
-  part_refused : (w : ℕ) (x : Phrased TextBehaviour) → PartAgrees (behaviour_coding es find) text n o p (P.Fault w) x → BehaviourAgrees es find text n o p (Fault w) x
+  part_refused : (w : Fault) (x : Phrased TextBehaviour) → PartAgrees (behaviour_coding es find) text n o p (Err w) x → BehaviourAgrees es find text n o p (Err w) x
   part_refused w (bad j i) e = e
   part_refused w (got y us) e = absurd e
 
-  part_done : (s : List ℕ) (q k to end w : ℕ) (x : Phrased TextBehaviour) → s ≡ name_at text q → PartAgrees (behaviour_coding es find) text n o p (P.Done to end w) x → ToldSo s k x
-      → BehaviourAgrees es find text n o p (Done q (numbers_taken k) to end w) x
+  part_done : (s : List ℕ) (q k to end : ℕ) (w : Code.Option Fault) (x : Phrased TextBehaviour) → s ≡ name_at text q → PartAgrees (behaviour_coding es find) text n o p (part to end w) x → ToldSo s k x
+      → BehaviourAgrees es find text n o p (behaved q (numbers_taken k) to end w) x
   part_done s q k to end w (bad j i) z e t = absurd e
   part_done s q k to end w (got y us) z e t = record { part = e; named = t.0 ∙ z; celled = t.1; told = t.2 }
 
@@ -107,7 +109,7 @@ module _ (text : List ℕ) (find : List ℕ → NameMeaning) (events names : Lis
   abbrev ns : List (List ℕ)
   ns = names_held text names count
 
-  pub behaviour_over : (w : ℕ) → 64 ≤ i → w ≡ 34 * 4294967296 + q → BehaviourRead text find events names count i q c at n o p (Fault w)
+  pub behaviour_over : (w : Fault) → 64 ≤ i → w ≡ fault_of too_many_fault q → BehaviourRead text find events names count i q c at n o p (Err w)
   unfolding behaviour_declared
   behaviour_over w h e es held = rw (le-leb 64 i h) e
 
@@ -116,19 +118,19 @@ module _ (text : List ℕ) (find : List ℕ → NameMeaning) (events names : Lis
         ≡ then_phrase (new_name ns (tokens_from text at)) (λ s us. kind_declared (after_all with_event [] es) i c s us)
     steps es = name_steps (after_all with_event [] es) ns i q c (tokens_from text at) (lt-leb 64 i room)
 
-    pub behaviour_unnamed : (w : ℕ) → DueRead (NamedAt text) text (D.Fault w) (new_name ns (tokens_from text at)) → BehaviourRead text find events names count i q c at n o p (Fault w)
+    pub behaviour_unnamed : (w : Fault) → DueRead (NamedAt text) text (Err w) (new_name ns (tokens_from text at)) → BehaviourRead text find events names count i q c at n o p (Err w)
     behaviour_unnamed w d es held = rw (steps es) (due_refused es find text n o p (NamedAt text) w (new_name ns (tokens_from text at)) (λ s us. kind_declared (after_all with_event [] es) i c s us) d)
 
-    module _ (j v next : ℕ) (named : DueRead (NamedAt text) text (D.Found j v next) (new_name ns (tokens_from text at))) where
-      pub behaviour_uncounted : (w : ℕ) → DueRead CountIs text (D.Fault w) (cells_said i c (tokens_from text next)) → BehaviourRead text find events names count i q c at n o p (Fault w)
+    module _ (j v next : ℕ) (named : DueRead (NamedAt text) text (found j v next) (new_name ns (tokens_from text at))) where
+      pub behaviour_uncounted : (w : Fault) → DueRead CountIs text (Err w) (cells_said i c (tokens_from text next)) → BehaviourRead text find events names count i q c at n o p (Err w)
       behaviour_uncounted w d es held =
           rw (steps es)
-          (due_onward es find text n o p (NamedAt text) j v next (Fault w) (new_name ns (tokens_from text at)) (λ s us. kind_declared (after_all with_event [] es) i c s us) named (λ s z.
+          (due_onward es find text n o p (NamedAt text) j v next (Err w) (new_name ns (tokens_from text at)) (λ s us. kind_declared (after_all with_event [] es) i c s us) named (λ s z.
           rw (kind_steps (after_all with_event [] es) i s c (tokens_from text next))
           (due_refused es find text n o p CountIs w (cells_said i c (tokens_from text next)) (kind_read (after_all with_event [] es) s c) d)))
 
-      module _ (l k after : ℕ) (counted : DueRead CountIs text (D.Found l k after) (cells_said i c (tokens_from text next))) where
-        through : (es : List TextEvent) (r : Behaviour)
+      module _ (l k after : ℕ) (counted : DueRead CountIs text (found l k after) (cells_said i c (tokens_from text next))) where
+        through : (es : List TextEvent) (r : BehaviourDue)
             → ((s : List ℕ) → s ≡ name_at text j → CellsTold c k → BehaviourAgrees es find text n o p r (kind_read (after_all with_event [] es) s c k (tokens_from text after)))
             → BehaviourAgrees es find text n o p r (behaviour_declared (after_all with_event [] es) (taken ns i) (sign q c ∷ tokens_from text at))
         through es r g =
@@ -137,14 +139,14 @@ module _ (text : List ℕ) (find : List ℕ → NameMeaning) (events names : Lis
             rw (kind_steps (after_all with_event [] es) i s c (tokens_from text next))
             (cells_onward_so es find text n o p c l k after r (cells_said i c (tokens_from text next)) (kind_read (after_all with_event [] es) s c) (cells_so i c (tokens_from text next)) counted (λ t. g s z t))))
 
-        pub behaviour_refused : (w : ℕ) → KindRead text find events c k after n o p (P.Fault w) → BehaviourRead text find events names count i q c at n o p (Fault w)
+        pub behaviour_refused : (w : Fault) → KindRead text find events c k after n o p (Err w) → BehaviourRead text find events names count i q c at n o p (Err w)
         behaviour_refused w h es held =
-            through es (Fault w) (λ s z t. part_refused es find text n o p w (kind_read (after_all with_event [] es) s c k (tokens_from text after)) (h es held s))
+            through es (Err w) (λ s z t. part_refused es find text n o p w (kind_read (after_all with_event [] es) s c k (tokens_from text after)) (h es held s))
 
-        pub behaviour_done : (to end w : ℕ) → KindRead text find events c k after n o p (P.Done to end w)
-            → BehaviourRead text find events names count i q c at n o p (Done j (numbers_taken k) to end w)
+        pub behaviour_done : (to end : ℕ) (w : Code.Option Fault) → KindRead text find events c k after n o p (part to end w)
+            → BehaviourRead text find events names count i q c at n o p (behaved j (numbers_taken k) to end w)
         behaviour_done to end w h es held =
-            through es (Done j (numbers_taken k) to end w) (λ s z t.
+            through es (behaved j (numbers_taken k) to end w) (λ s z t.
             part_done es find text n o p s j k to end w (kind_read (after_all with_event [] es) s c k (tokens_from text after)) z (h es held s)
             (kind_told (after_all with_event [] es) s c k (tokens_from text after) t))
 

@@ -1,7 +1,9 @@
 -- The loop over behaviours: what it keeps (`Turn`), at the start, over a turn, and at its ends.
-use Rattle.lib_base.proofs.Prelude.{ℕ, ◌≤◌, ◌<◌, ◌+◌, ◌-◌, suc, zero, ◌*◌, ◌≡◌, refl, ◌∙◌, sym, ap, true, false, List}
-use Rattle.lib_base.proofs.Prelude.{[], ◌∷◌, ◌++◌, map, append_assoc, append-nil, map-append, length, take, length-set}
-use Rattle.lib_base.proofs.Prelude.{set, length-append, length-take, get_or-set_other, get_or-set_same, take_all}
+use Rattle.std.specs.Prelude.{Option, None, Err}
+use Rattle.source_coding.specs.declared.faults.Fault.{Fault}
+use Rattle.lib_base.proofs.Prelude.{ℕ, ◌≤◌, ◌<◌, ◌+◌, ◌-◌, suc, zero, ◌*◌, ◌≡◌, refl, ◌∙◌, sym, ap, true, false, List, []}
+use Rattle.lib_base.proofs.Prelude.{◌∷◌, ◌++◌, map, append_assoc, append-nil, map-append, length, take, length-set}
+use Rattle.lib_base.proofs.Prelude.{set, length-append, get_or-set_other, get_or-set_same, take_all}
 use Rattle.lib_base.proofs.Prelude.{take-append-le, eqb, eqb-true, eqb-false, arith}
 use Rattle.lib_base.specs.Basics.{All}
 use Rattle.lib_base.proofs.Tools.{split, all_join}
@@ -11,16 +13,14 @@ use Rattle.source_language.specs.Faults.{Kind}
 use Rattle.source_language.specs.Limits.{after_all, with_event, taken, with_behaviour}
 use Rattle.source_language.specs.Meaning.{NameMeaning}
 use Rattle.source_language.specs.Reader.{Phrased, bad, got, sign_at, behaviour_declared, behaviour_begins}
-use Rattle.source_coding.specs.FaultWords.{first_fault}
+use Rattle.std.specs.Option.{option_or}
 use Rattle.source_coding.specs.Places.{tokens_from, name_at, names_held}
 use Rattle.source_declarations.specs.Declarations.{name_of_event}
 use Rattle.source_declarations.proofs.Many.{many_faults, many_over}
 use Rattle.source_declarations.proofs.Held.{held_more, named_more}
 use Rattle.source_handlers.proofs.Gather.{after_more, Gathered, gather_start, gather_turn}
-use Rattle.source_behaviours.specs.declared.Behaviour.TheVariants as B
-use Rattle.source_behaviours.specs.declared.Behaviours.TheVariants.{Done, Fault}
 use Rattle.source_body.specs.Body.{behaviour_coding}
-use Rattle.source_behaviours.specs.Behaviours.{behaviours_coding, name_of_behaviour, cells_of_behaviour, RowTold, cells_of_all, BehaviourAgrees, BehaviourRead, StartsAre, BehavioursAgree, behaviours_declared, BehavioursRead}
+use Rattle.source_behaviours.specs.Behaviours.{behaved, all_behaved, behaviours_coding, name_of_behaviour, cells_of_behaviour, RowTold, cells_of_all, BehaviourAgrees, BehaviourRead, StartsAre, BehavioursAgree, behaviours_declared, BehavioursRead}
 use Rattle.source_behaviours.proofs.Steps.{leaves_behaviour}
 use Rattle.source_behaviours.proofs.Grow.{behaviours_grow}
 
@@ -32,13 +32,6 @@ pub all_set : (P : ℕ → Type 0) (l : List ℕ) (i v : ℕ) → All P l → P 
 all_set P [] i v a h = tt
 all_set P (x ∷ l) zero v a h = (h, a.1)
 all_set P (x ∷ l) (suc i) v a h = (a.0, all_set P l i v a.1 h)
-
--- the places of the events that are known
-pub front_of : (n : ℕ) (l : List ℕ) → take (n - 0) l ≡ take n l
-front_of n l = let z : n - 0 ≡ n = omega arith in rw z
-
-pub front_few : (n : ℕ) (l : List ℕ) → n ≤ 32 → length (take (n - 0) l) ≤ 32
-front_few n l h = simp length-take (omega arith)
 
 with_behaviour_law : (ns : List (List ℕ)) (i : ℕ) (x : TextBehaviour) → with_behaviour (taken ns i) x ≡ taken (name_of_behaviour x ∷ ns) (i + cells_of_behaviour x)
 with_behaviour_law ns i (behaviour s b m) = refl
@@ -68,7 +61,7 @@ starts_more starts bs x j i s h l e k g =
     rw (get_or-set_other starts j k i 0 q, take-append-le k bs (x ∷ []) m) (s k m))
 
 module _ (text : List ℕ) (find : List ℕ → NameMeaning) (events : List ℕ) (at n : ℕ) (o old : List ℕ) (first : ℕ) where
-  pub record SoFar (es : List TextEvent) (names starts out : List ℕ) (f count i end w : ℕ) : Type 0 where
+  pub record SoFar (es : List TextEvent) (names starts out : List ℕ) (f count i end : ℕ) (w : Option Fault) : Type 0 where
     pub done : List TextBehaviour
     pub gathered : Gathered (behaviour_coding es find) (behaviours_coding es find) (behaviours_grow es find) text n o behaviour_begins (behaviour_declared (after_all with_event [] es))
         with_behaviour (taken (names_held text old first) 0) at quiet (leaves_behaviour (after_all with_event [] es)) done out f end w
@@ -79,7 +72,7 @@ module _ (text : List ℕ) (find : List ℕ → NameMeaning) (events : List ℕ)
     pub started : StartsAre starts done
     pub told : All RowTold done
 
-  pub record Turn (names starts out : List ℕ) (f count i end w : ℕ) : Type 0 where
+  pub record Turn (names starts out : List ℕ) (f count i end : ℕ) (w : Option Fault) : Type 0 where
     pub so_far : (es : List TextEvent) → map (name_at text) events ≡ map name_of_event es → SoFar es names starts out f count i end w
     pub kept : length out ≡ length o
     pub names_all : length names ≡ 72
@@ -94,7 +87,7 @@ module _ (text : List ℕ) (find : List ℕ → NameMeaning) (events : List ℕ)
     pub rising : n ≤ end
     pub bounded : end + at * 16 ≤ n + f * 16
 
-  pub turn_start : (starts : List ℕ) → at ≤ length text → length old ≡ 72 → first ≤ 8 → length starts ≡ 65 → All (λ k. k ≤ 64) starts → Turn old (set starts 0 0) o at first 0 n 0
+  pub turn_start : (starts : List ℕ) → at ≤ length text → length old ≡ 72 → first ≤ 8 → length starts ≡ 65 → All (λ k. k ≤ 64) starts → Turn old (set starts 0 0) o at first 0 n None
   unfolding after_all cells_of_all
   turn_start starts h l b s a =
       record {
@@ -124,11 +117,11 @@ module _ (text : List ℕ) (find : List ℕ → NameMeaning) (events : List ℕ)
         bounded = omega arith;
       }
 
-  module _ (es : List TextEvent) (names starts out : List ℕ) (f count i end w : ℕ) (s : SoFar es names starts out f count i end w) where
+  module _ (es : List TextEvent) (names starts out : List ℕ) (f count i end : ℕ) (w : Option Fault) (s : SoFar es names starts out f count i end w) where
     abbrev evs : List (List ℕ)
     evs = after_all with_event [] es
 
-    over_read : (x : Phrased (List TextBehaviour)) → x ≡ got s.done (tokens_from text f) → BehavioursAgree es find text n o out old first names starts (Done f count end w) x
+    over_read : (x : Phrased (List TextBehaviour)) → x ≡ got s.done (tokens_from text f) → BehavioursAgree es find text n o out old first names starts (all_behaved f count end w) x
     over_read x e = rw e (record { part = s.gathered.written; named = s.named; started = s.started; told = s.told })
 
     module _ (q c next : ℕ) (here : tokens_from text f ≡ sign q c ∷ tokens_from text next) (begins : behaviour_begins c ≡ true) where
@@ -139,9 +132,9 @@ module _ (text : List ℕ) (find : List ℕ → NameMeaning) (events : List ℕ)
           ≡ behaviour_declared evs (taken (names_held text names count) i) (sign q c ∷ tokens_from text next)
       reader_here = rw (s.taken_so, here)
 
-      one_refused : (r t u : List ℕ) (v : ℕ) (y : Phrased TextBehaviour) → behaviour_declared evs (taken (names_held text names count) i) (sign q c ∷ tokens_from text next) ≡ y
-          → BehaviourAgrees es find text end out r (B.Fault v) y
-          → BehavioursAgree es find text n o r old first t u (Fault v) (behaviours_declared evs (names_held text old first) (tokens_from text at))
+      one_refused : (r t u : List ℕ) (v : Fault) (y : Phrased TextBehaviour) → behaviour_declared evs (taken (names_held text names count) i) (sign q c ∷ tokens_from text next) ≡ y
+          → BehaviourAgrees es find text end out r (Err v) y
+          → BehavioursAgree es find text n o r old first t u (Err v) (behaviours_declared evs (names_held text old first) (tokens_from text at))
       one_refused r t u v (bad k j) e h =
           let z : behaviours_declared evs (names_held text old first) (tokens_from text at) ≡ bad k j = refused_whole k j (reader_here ∙ e) in
           rw (z, h) refl
@@ -152,9 +145,9 @@ module _ (text : List ℕ) (find : List ℕ → NameMeaning) (events : List ℕ)
               (after_all with_behaviour (taken (names_held text old first) 0) s.done) (tokens_from text f) k j starts_here e
       one_refused r t u v (got x us) e h = absurd h
 
-      one_done : (r : List ℕ) (p cells to stop v : ℕ) (y : Phrased TextBehaviour) → behaviour_declared evs (taken (names_held text names count) i) (sign q c ∷ tokens_from text next) ≡ y
-          → BehaviourAgrees es find text end out r (B.Done p cells to stop v) y → end ≤ stop → length out ≡ length o → count < length names → count + 1 - first < length starts → first ≤ count
-          → SoFar es (set names count p) (set starts (count + 1 - first) (i + cells)) r to (count + 1) (i + cells) stop (first_fault w v)
+      one_done : (r : List ℕ) (p cells to stop : ℕ) (v : Option Fault) (y : Phrased TextBehaviour) → behaviour_declared evs (taken (names_held text names count) i) (sign q c ∷ tokens_from text next) ≡ y
+          → BehaviourAgrees es find text end out r (behaved p cells to stop v) y → end ≤ stop → length out ≡ length o → count < length names → count + 1 - first < length starts → first ≤ count
+          → SoFar es (set names count p) (set starts (count + 1 - first) (i + cells)) r to (count + 1) (i + cells) stop (option_or w v)
       one_done r p cells to stop v (bad k j) e h a l m b g = absurd h
       one_done r p cells to stop v (got x us) e h a l m b g =
           record {
@@ -171,8 +164,8 @@ module _ (text : List ℕ) (find : List ℕ → NameMeaning) (events : List ℕ)
             told = all_join RowTold s.done (x ∷ []) s.told (h.told, tt);
           }
 
-  module _ {names starts out : List ℕ} {f count i end w : ℕ} (t : Turn names starts out f count i end w) where
-    pub turn_over : behaviour_begins (sign_at (tokens_from text f)) ≡ false → BehavioursRead text find events at n o out old first names starts (Done f count end w)
+  module _ {names starts out : List ℕ} {f count i end : ℕ} {w : Option Fault} (t : Turn names starts out f count i end w) where
+    pub turn_over : behaviour_begins (sign_at (tokens_from text f)) ≡ false → BehavioursRead text find events at n o out old first names starts (all_behaved f count end w)
     turn_over h es held =
         let s = t.so_far es held in
         over_read es names starts out f count i end w s (behaviours_declared (after_all with_event [] es) (names_held text old first) (tokens_from text at))
@@ -180,13 +173,13 @@ module _ (text : List ℕ) (find : List ℕ → NameMeaning) (events : List ℕ)
         (length (tokens_from text f)) (after_all with_behaviour (taken (names_held text old first) 0) s.done) (tokens_from text f) h)
 
     module _ (q c next : ℕ) (here : tokens_from text f ≡ sign q c ∷ tokens_from text next) (begins : behaviour_begins c ≡ true) where
-      pub turn_fault : (r a b : List ℕ) (v : ℕ) (given : List ℕ) → given ≡ events → BehaviourRead text find given names count i q c next end out r (B.Fault v) → BehavioursRead text find events at n o r old first a b (Fault v)
+      pub turn_fault : (r a b : List ℕ) (v : Fault) (given : List ℕ) → given ≡ events → BehaviourRead text find given names count i q c next end out r (Err v) → BehavioursRead text find events at n o r old first a b (Err v)
       turn_fault r a b v given same h es held =
           one_refused es names starts out f count i end w (t.so_far es held) q c next here begins r a b v _ refl (h es (ap (map (name_at text)) same ∙ held))
 
-      pub turn_on : (r : List ℕ) (p cells to stop v : ℕ) (given : List ℕ) → given ≡ events → BehaviourRead text find given names count i q c next end out r (B.Done p cells to stop v) → end ≤ stop
+      pub turn_on : (r : List ℕ) (p cells to stop : ℕ) (v : Option Fault) (given : List ℕ) → given ≡ events → BehaviourRead text find given names count i q c next end out r (behaved p cells to stop v) → end ≤ stop
           → f ≤ to → to ≤ length text → stop + f * 16 ≤ end + to * 16 → 0 < cells → i + cells ≤ 64 → length r ≡ length out
-          → Turn (set names count p) (set starts (count + 1 - first) (i + cells)) r to (count + 1) (i + cells) stop (first_fault w v)
+          → Turn (set names count p) (set starts (count + 1 - first) (i + cells)) r to (count + 1) (i + cells) stop (option_or w v)
       turn_on r p cells to stop v given same h a b d e g k l =
           record {
             so_far = λ es held.

@@ -13,18 +13,17 @@ ghost use Rattle.source_handlers.specs.Parts.{DueRead};
 ghost use Rattle.source_behaviours.specs.Behaviours.{new_name, closed_cells, counted_cells, cells_said, numbers_taken};
 ghost use Rattle.source_behaviours.specs.Behaviours.{NamedAt, CountIs, CellsWithin, ClosedWithin, WordRead};
 ghost use Rattle.source_behaviours.specs.Behaviours.{WordWithin, BehaviourRead, BehaviourWithin, BehavioursRead, BehavioursWithin};
-ghost use Rattle.source_behaviours.specs.Behaviours.{EndFault, refused_part, refused_behaviour, refused_behaviours, refused_declared};
+ghost use Rattle.source_behaviours.specs.Behaviours.{EndFault};
 ghost use Rattle.source_behaviours.specs.Usable.{HeadingUsable, BegunUsable};
 ghost use Rattle.source_behaviours.specs.Whole.{LookupUsable, TextRead, EndWithin};
 ghost use Rattle.source_coding.specs.Bounds.{first_cells, name_limit, text_bytes};
 ghost use Rattle.spec_language.specs.Limits.{behaviour_limit, most_cells, sheet_bytes};
 
 use source_body::kind_at;
-use source_coding::{faults, limits as texts, signs};
-use source_declarations::{Declared, fault_in};
-use source_due::{Due, fault_word, sign_due};
-use source_field::{Cursor, first_fault};
-use source_handlers::Part;
+use source_coding::faults::{Fault, Kind};
+use source_coding::{limits as texts, signs};
+use source_due::{Due, Found, sign_due};
+use source_field::Cursor;
 use source_tokens::Token;
 use spec_language::limits;
 
@@ -36,27 +35,34 @@ const LEAST_CELLS: u64 = limits::LEAST_CELLS as u64;
 const MOST_CELLS: u64 = limits::MOST_CELLS as u64;
 
 // A behaviour: the place of its name, its cells, the place behind it, the end of its field, and the first fault of its
-// names, 0 for none; or a fault's word.
-#[derive(Drop)]
-pub enum Behaviour {
-    Done(usize, usize, usize, usize, u64),
-    Fault(u64),
+// names, if there is one.
+#[derive(Clone, Copy, Drop)]
+pub struct Behaviour {
+    pub place: usize,
+    pub cells: usize,
+    pub next: usize,
+    pub end: usize,
+    pub stray: Option<Fault>,
 }
 
 // Behaviours: the place behind them, how many names there are with theirs, the end of their fields, and the first fault
-// of their names; or a fault's word.
-#[derive(Drop)]
-pub enum Behaviours {
-    Done(usize, usize, usize, u64),
-    Fault(u64),
+// of their names, if there is one.
+#[derive(Clone, Copy, Drop)]
+pub struct Behaviours {
+    pub next: usize,
+    pub count: usize,
+    pub end: usize,
+    pub stray: Option<Fault>,
 }
 
-// The end of the sheet's bytes, how many parameters, how many names, and the first fault of a name in a formula, 0 for
-// none; or the first fault of the first pass.
-#[derive(Drop)]
-pub enum Reading {
-    Read(usize, usize, usize, u64),
-    Fault(u64),
+// What a text without a fault of the first pass says: the end of the sheet's bytes, how many parameters, how many
+// names, and the first fault of a name in a formula, if there is one.
+#[derive(Clone, Copy, Drop)]
+pub struct Reading {
+    pub end: usize,
+    pub params: usize,
+    pub count: usize,
+    pub stray: Option<Fault>,
 }
 
 // A behaviour behind its word: the place there, the word's own place and number, how many cells and names come before,
@@ -93,14 +99,14 @@ fn name_at(text: &[u8], at: usize, names: &[usize], count: usize) -> Due
         (new_name (names_held text.now names.now count) (tokens_from text.now at)) }
     ensures due_within { DueWithin (length text.now) at result }
 {
-    let d = source_due::name_due(text, at);
-    let Due::Found(p, _, next) = d else {
-        return d;
-    };
-    if source_names::is_among(text, p, names, count) {
-        return Due::Fault(fault_word(faults::DECLARED_TWICE, p));
+    let name = source_due::name_due(text, at)?;
+    if source_names::is_among(text, name.place, names, count) {
+        return Err(Fault {
+            kind: Kind::DeclaredTwice,
+            place: name.place,
+        });
     }
-    Due::Found(p, 0, next)
+    Ok(name)
 }
 
 // A row's count after `[`, behind i cells.
@@ -111,20 +117,24 @@ fn count_at(text: &[u8], at: usize, i: usize) -> Due
     ensures due_read { DueRead CountIs text.now result (counted_cells i (tokens_from text.now at)) }
     ensures cells_within { CellsWithin (length text.now) at i result }
 {
-    let d = source_due::number_due(text, at, texts::LARGEST);
-    let Due::Found(p, v, next) = d else {
-        return d;
-    };
-    if v < LEAST_CELLS {
-        return Due::Fault(fault_word(faults::OFF_SCALE, p));
+    let Found {
+        place,
+        number,
+        next,
+    } = source_due::number_due(text, at, texts::LARGEST)?;
+    if number < LEAST_CELLS || MOST_CELLS < number {
+        return Err(Fault {
+            kind: Kind::OffScale,
+            place,
+        });
     }
-    if MOST_CELLS < v {
-        return Due::Fault(fault_word(faults::OFF_SCALE, p));
+    if limits::BEHAVIOURS < i + (number as usize) {
+        return Err(Fault {
+            kind: Kind::TooMany,
+            place,
+        });
     }
-    if limits::BEHAVIOURS < i + (v as usize) {
-        return Due::Fault(fault_word(faults::TOO_MANY, p));
-    }
-    closed_at(text, next, p, v)
+    closed_at(text, next, place, number)
 }
 
 // `]` behind a row's count v, which stands at p.
@@ -134,11 +144,12 @@ fn closed_at(text: &[u8], at: usize, p: usize, v: u64) -> Due
     ensures due_read { DueRead CountIs text.now result (closed_cells v (tokens_from text.now at)) }
     ensures closed_within { ClosedWithin (length text.now) at v result }
 {
-    let d = sign_due(text, at, signs::UNBRACKET);
-    let Due::Found(_, _, next) = d else {
-        return d;
-    };
-    Due::Found(p, v, next)
+    let bracket = sign_due(text, at, signs::UNBRACKET)?;
+    Ok(Found {
+        place: p,
+        number: v,
+        next: bracket.next,
+    })
 }
 
 // A row's count behind i cells; 0 for another behaviour.
@@ -150,13 +161,14 @@ fn cells_due(text: &[u8], at: usize, word: u64, i: usize) -> Due
     ensures cells_within { CellsWithin (length text.now) at i result }
 {
     if word != ROW {
-        return Due::Found(at, 0, at);
+        return Ok(Found {
+            place: at,
+            number: 0,
+            next: at,
+        });
     }
-    let d = sign_due(text, at, signs::BRACKET);
-    let Due::Found(_, _, next) = d else {
-        return d;
-    };
-    count_at(text, next, i)
+    let bracket = sign_due(text, at, signs::BRACKET)?;
+    count_at(text, bracket.next, i)
 }
 
 // How many numbers a behaviour takes, by a row's count or 0.
@@ -170,16 +182,6 @@ fn numbers_of(cells: usize) -> usize
     cells
 }
 
-// A part at fault, and so the behaviour.
-fn refused_part(part: Part) -> Behaviour
-    ensures { result ≡ refused_part part }
-{
-    match part {
-        Part::Fault(w) => Behaviour::Fault(w),
-        Part::Done(_, _, _) => Behaviour::Fault(0),
-    }
-}
-
 // A behaviour from behind its word on.
 fn behaviour_at(
     text: &[u8],
@@ -189,7 +191,7 @@ fn behaviour_at(
     meanings: &[usize],
     events: &[usize],
     out: &mut [u8],
-) -> Behaviour
+) -> Result<Behaviour, Fault>
     requires { HeadingUsable text.now heading names.now places.now meanings.now events.now out.old }
     ensures behaviour_read { BehaviourRead text.now
         (meaning_by text.now places.now heading.sorted meanings.now) events.now
@@ -199,59 +201,52 @@ fn behaviour_at(
     ensures out_len_unchanged { length out.new ≡ length out.old }
 {
     if limits::BEHAVIOURS <= heading.cells {
-        return Behaviour::Fault(fault_word(faults::TOO_MANY, heading.place));
+        return Err(Fault {
+            kind: Kind::TooMany,
+            place: heading.place,
+        });
     }
-    let name = name_at(text, heading.at, names, heading.count);
-    let Due::Found(p, _, next) = name else {
-        return Behaviour::Fault(fault_in(name));
-    };
-    let counted = cells_due(text, next, heading.word, heading.cells);
-    let Due::Found(_, cells, after) = counted else {
-        return Behaviour::Fault(fault_in(counted));
-    };
-    let many = cells as usize;
+    let name = name_at(text, heading.at, names, heading.count)?;
+    let counted = cells_due(text, name.next, heading.word, heading.cells)?;
+    let cells = counted.number as usize;
     let cursor = Cursor {
-        at: after,
+        at: counted.next,
         end: heading.end,
         sorted: heading.sorted,
-        cells: many,
+        cells,
         room: limits::NESTING,
     };
-    let r = kind_at(text, cursor, places, meanings, events, heading.word, out);
-    let Part::Done(to, end, w) = r else {
-        return refused_part(r);
-    };
-    Behaviour::Done(p, numbers_of(many), to, end, w)
+    let part = kind_at(text, cursor, places, meanings, events, heading.word, out)?;
+    Ok(Behaviour {
+        place: name.place,
+        cells: numbers_of(cells),
+        next: part.next,
+        end: part.end,
+        stray: part.stray,
+    })
 }
 
-// A word that begins a behaviour: its place, its sign's number, and the place behind it; else no more than a fault.
-fn heading_at(text: &[u8], at: usize) -> Due
+// A word that begins a behaviour, if one stands there: its place, its sign's number, and the place behind it.
+fn heading_at(text: &[u8], at: usize) -> Option<Found>
     requires text_len_bound { length text.now ≤ text_bytes }
     requires at_in_bounds { at ≤ length text.now }
     ensures word_read { WordRead text.now at result }
     ensures word_within { WordWithin (length text.now) at result }
 {
-    let t = source_tokens::token_at(text, at);
-    let Token::Sign(p, c, next) = t else {
-        return Due::Fault(0);
+    let Token::Sign(place, c, next) = source_tokens::token_at(text, at) else {
+        return None;
     };
     if c < signs::PASSIVE {
-        return Due::Fault(0);
+        return None;
     }
     if signs::ROW < c {
-        return Due::Fault(0);
+        return None;
     }
-    Due::Found(p, c as u64, next)
-}
-
-// A behaviour at fault, and so all of them.
-fn refused_behaviour(behaviour: Behaviour) -> Behaviours
-    ensures { result ≡ refused_behaviour behaviour }
-{
-    match behaviour {
-        Behaviour::Fault(w) => Behaviours::Fault(w),
-        Behaviour::Done(_, _, _, _, _) => Behaviours::Fault(0),
-    }
+    Some(Found {
+        place,
+        number: c as u64,
+        next,
+    })
 }
 
 // The behaviours from a place on. The places of their names go behind those that are taken of `names`, the numbers of
@@ -264,7 +259,7 @@ fn behaviours_at(
     names: &mut [usize],
     starts: &mut [usize],
     out: &mut [u8],
-) -> Behaviours
+) -> Result<Behaviours, Fault>
     requires { BegunUsable text.now begun places.now meanings.now names.old starts.old out.old }
     ensures behaviours_read { BehavioursRead text.now
         (meaning_by text.now places.now begun.sorted meanings.now)
@@ -275,76 +270,68 @@ fn behaviours_at(
         × (((length starts.new ≡ first_cells) × All (λ i. i ≤ behaviour_limit) starts.new)
         × (length out.new ≡ length out.old)) }
 {
-    let events = begun.events;
-    let known = begun.known;
     starts[0] = 0;
-    let mut f = begun.at;
-    let mut count = begun.taken;
+    let mut all = Behaviours {
+        next: begun.at,
+        count: begun.taken,
+        end: begun.end,
+        stray: None,
+    };
     let mut i = 0usize;
-    let mut end = begun.end;
-    let mut w = 0u64;
     loop {
-        let first = heading_at(text, f);
-        let Due::Found(q, word, next) = first else {
-            return Behaviours::Done(f, count, end, w);
+        let Some(word) = heading_at(text, all.next) else {
+            return Ok(all);
         };
-        let head = Heading {
-            at: next,
-            place: q,
-            word: word,
+        let heading = Heading {
+            at: word.next,
+            place: word.place,
+            word: word.number,
             cells: i,
-            count: count,
-            end: end,
+            count: all.count,
+            end: all.end,
             sorted: begun.sorted,
         };
-        let b = behaviour_at(text, head, names, places, meanings, &events[0..known], out);
-        let Behaviour::Done(p, cells, to, stop, v) = b else {
-            return refused_behaviour(b);
+        let one = behaviour_at(
+            text,
+            heading,
+            names,
+            places,
+            meanings,
+            &begun.events[..begun.known],
+            out,
+        )?;
+        names[all.count] = one.place;
+        i = i + one.cells;
+        all = Behaviours {
+            next: one.next,
+            count: all.count + 1,
+            end: one.end,
+            stray: all.stray.or(one.stray),
         };
-        names[count] = p;
-        count = count + 1;
-        i = i + cells;
-        starts[count - begun.taken] = i;
-        f = to;
-        end = stop;
-        w = first_fault(w, v);
+        starts[all.count - begun.taken] = i;
     }
 }
 
-// 0 where the text ends, else a fault's word.
-fn end_fault(text: &[u8], at: usize) -> u64
+// The fault where the text does not end.
+fn end_fault(text: &[u8], at: usize) -> Option<Fault>
     requires text_len_bound { length text.now ≤ text_bytes }
     requires at_in_bounds { at ≤ length text.now }
     ensures { EndFault text.now at result }
 {
     let t = source_tokens::token_at(text, at);
-    let Token::Sign(p, c, _) = t else {
-        return fault_word(faults::OUTSIDE, source_tokens::place_of(t));
+    let Token::Sign(place, c, _) = t else {
+        return Some(Fault {
+            kind: Kind::Outside,
+            place: source_tokens::place_of(t),
+        });
     };
     if c != signs::END {
-        return fault_word(faults::OUTSIDE, p);
+        return Some(Fault {
+            kind: Kind::Outside,
+            place,
+        });
     }
-    0
-}
-
-// Declarations at fault, and so the text.
-fn refused_declared(declared: Declared) -> Reading
-    ensures { result ≡ refused_declared declared }
-{
-    match declared {
-        Declared::Fault(w) => Reading::Fault(w),
-        Declared::Done(_, _, _) => Reading::Fault(0),
-    }
-}
-
-// Behaviours at fault, and so the text.
-fn refused_behaviours(behaviours: Behaviours) -> Reading
-    ensures { result ≡ refused_behaviours behaviours }
-{
-    match behaviours {
-        Behaviours::Fault(w) => Reading::Fault(w),
-        Behaviours::Done(_, _, _, _) => Reading::Fault(0),
-    }
+    None
 }
 
 // A text, in which names mean what `places`, `sorted` and `meanings` say. What it declares goes to `names` and
@@ -358,7 +345,7 @@ pub fn read_at(
     names: &mut [usize],
     starts: &mut [usize],
     out: &mut [u8],
-) -> Reading
+) -> Result<Reading, Fault>
     requires text_len_bound { length text.now ≤ text_bytes }
     requires lookup_usable { LookupUsable places.now sorted meanings.now }
     requires names_len { (length names.old ≡ name_limit) × (((length starts.old ≡ first_cells) × All (λ i. i ≤ behaviour_limit) starts.old)
@@ -370,30 +357,25 @@ pub fn read_at(
     ensures names_len_2 { (length names.new ≡ name_limit)
         × ((length starts.new ≡ first_cells) × (length out.new ≡ length out.old)) }
 {
-    let first = source_declarations::parameters_at(text, 0, names);
-    let Declared::Done(a, taken, _) = first else {
-        return refused_declared(first);
-    };
+    let params = source_declarations::parameters_at(text, 0, names)?;
     let mut events = [0usize; limits::EVENTS];
-    let second = source_declarations::events_at(text, a, &mut events, out, 0);
-    let Declared::Done(b, count, n) = second else {
-        return refused_declared(second);
-    };
+    let known = source_declarations::events_at(text, params.next, &mut events, out, 0)?;
     let begun = Begun {
-        at: b,
-        end: n,
-        taken: taken,
-        sorted: sorted,
-        known: count,
-        events: events,
+        at: known.next,
+        end: known.end,
+        taken: params.count,
+        sorted,
+        known: known.count,
+        events,
     };
-    let third = behaviours_at(text, begun, places, meanings, names, starts, out);
-    let Behaviours::Done(f, total, end, w) = third else {
-        return refused_behaviours(third);
-    };
-    let fault = end_fault(text, f);
-    if fault != 0 {
-        return Reading::Fault(fault);
+    let all = behaviours_at(text, begun, places, meanings, names, starts, out)?;
+    if let Some(fault) = end_fault(text, all.next) {
+        return Err(fault);
     }
-    Reading::Read(end, taken, total, w)
+    Ok(Reading {
+        end: all.end,
+        params: params.count,
+        count: all.count,
+        stray: all.stray,
+    })
 }

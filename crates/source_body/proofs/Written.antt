@@ -1,5 +1,7 @@
 -- A behaviour's bytes: what stands before its expression or handlers, these, who may see it, and the head in front make
 -- its field. Of a passive, an active and a row it is told at once.
+use Rattle.std.specs.Prelude as Code
+use Rattle.source_coding.specs.declared.faults.Fault.{Fault}
 use Rattle.lib_base.proofs.Prelude.{ℕ, ◌≤◌, ◌+◌, ◌≡◌, refl, ◌∙◌, sym, ap, Option, some, none, List, ◌++◌, append_assoc}
 use Rattle.lib_base.proofs.Prelude.{length, take, eqb, ne_eqb, arith}
 use Rattle.lib_base.proofs.Tools.{split}
@@ -28,12 +30,6 @@ viewer_bytes_law : (m : Option (List ℕ)) → viewer_bytes (rights_number m) �
 viewer_bytes_law none = refl
 viewer_bytes_law (some ns) = rw (ne_eqb (bits_below 8 ns) 256 (omega (arith, bits_small 8 ns)))
 
-pub viewer_few : (bits : ℕ) → length (viewer_bytes bits) ≤ 4
-viewer_few bits = split (eqb bits 256) (λ e. rw e (omega arith)) (λ e. rw e (omega arith))
-
-pub start_few : (c w : ℕ) → length (start_bytes c w) ≤ 8
-start_few c w = split (eqb c 0) (λ e. rw e (omega arith)) (λ e. rw e (omega arith))
-
 -- ---- one behaviour
 
 -- an item made of a result
@@ -60,7 +56,7 @@ module _ {X : Type 0} (enc : X → List ℕ) (wrap : X → Item) (t : ℕ) (befo
       let r : field (tag_of (wrap x)) (encode_item (wrap x) ++ encode_viewer v) ≡ field t ((before ++ enc x) ++ seen) = rw (tagged x, coded x, hv) in
       rw (z, r) (enclosed_taken t n stop o (fitted p end seen) ((before ++ enc x) ++ seen) (omega arith) g l₂ q₄)
 
-  pub entry_written : (es : List TextEvent) (find : List ℕ → NameMeaning) (text s : List ℕ) (body : Body) (v : Option (List ℕ)) (a : OrFault X) (size n m to end stop w bits : ℕ) (o p : List ℕ)
+  pub entry_written : (es : List TextEvent) (find : List ℕ → NameMeaning) (text s : List ℕ) (body : Body) (v : Option (List ℕ)) (a : OrFault X) (size n m to end stop : ℕ) (w : Code.Option Fault) (bits : ℕ) (o p : List ℕ)
       (us : List SheetToken) → item_of es find body ≡ and_then a (λ x. fine (wrap x)) → body_size body ≡ length before + size → bits ≡ rights_number v → m ≡ n + 3 + length before
       → end ≡ m + size → w ≡ fault_in a → us ≡ tokens_from text to
       → ((x : X) → a ≡ fine x → end ≤ length (fitted o (n + 3) before) → take end p ≡ take m (fitted o (n + 3) before) ++ enc x)

@@ -1,6 +1,6 @@
 -- What the readings of a behaviour from behind its name and count on promise, in terms of the reader's functions
 -- (`passive_declared`, `state_of`).
-use Rattle.std.specs.Prelude.{ℕ, ◌+◌, ◌*◌, ◌≤◌, ◌<◌, ◌≡◌, List, [], map, eqb}
+use Rattle.std.specs.Prelude.{Ok, Err, ℕ, ◌+◌, ◌*◌, ◌≤◌, ◌<◌, ◌≡◌, List, map, eqb, []}
 use Rattle.std.proofs.Math.Option.{Option}
 use Rattle.lib_base.specs.Basics.{pick}
 use Rattle.spec_language.specs.Sheet.{Entry}
@@ -14,15 +14,10 @@ use Rattle.source_language.specs.Meaning.{NameMeaning, constant_word, rights_of,
 use Rattle.source_language.specs.Reader.{Phrased, got, then_phrase, past_sign, value_of, read_reactions, passive_declared, state_of}
 use Rattle.source_coding.specs.Places.{tokens_from, name_at}
 use Rattle.source_coding.specs.Sizes.{body_size, viewer_size}
-use Rattle.source_due.specs.declared.Due.{Due}
-use Rattle.source_due.specs.declared.Due.TheVariants as D
-use Rattle.source_declarations.specs.declared.Rights.{Rights}
-use Rattle.source_declarations.specs.declared.Rights.TheVariants as G
+use Rattle.source_due.specs.Due.{Due}
 use Rattle.source_declarations.specs.Players.{rights_number}
 use Rattle.source_declarations.specs.Declarations.{name_of_event}
-use Rattle.source_handlers.specs.declared.Part.{Part}
-use Rattle.source_handlers.specs.declared.Part.TheVariants as P
-use Rattle.source_handlers.specs.Parts.{Coding, PartAgrees}
+use Rattle.source_handlers.specs.Parts.{PartDue, Coding, PartAgrees}
 
 -- ---- how a behaviour becomes bytes
 
@@ -59,11 +54,11 @@ abbrev pub StartWordIs : ℕ → ℕ → TextConstant → Type 0
 StartWordIs p v c = v ≡ constant_word c
 
 abbrev pub StartWithin : ℕ → ℕ → Due → Type 0
-StartWithin long at (D.Fault w) = Unit {0}
-StartWithin long at (D.Found p v next) = (at < next) × (next ≤ long) × (v < 4294967296)
+StartWithin long at (Err w) = Unit {0}
+StartWithin long at (Ok d) = (at < d.next) × (d.next ≤ long) × (d.number < 4294967296)
 
 -- an active or a row from its handlers on, whatever the events are whose names stand at these places
-abbrev pub StateRead : List ℕ → (List ℕ → NameMeaning) → List ℕ → ℕ → ℕ → ℕ → ℕ → ℕ → List ℕ → List ℕ → Part → Type 0
+abbrev pub StateRead : List ℕ → (List ℕ → NameMeaning) → List ℕ → ℕ → ℕ → ℕ → ℕ → ℕ → List ℕ → List ℕ → PartDue → Type 0
 StateRead text find events c start bits at n o p r =
     (es : List TextEvent) → map (name_at text) events ≡ map name_of_event es
     → (s : List ℕ) (v : TextConstant) (m : Option (List ℕ)) → start ≡ constant_word v → bits ≡ rights_number m
@@ -71,26 +66,21 @@ StateRead text find events c start bits at n o p r =
     (then_phrase (read_reactions (after_all with_event [] es) (tokens_from text at)) (λ hs us. got (behaviour s (body_made c v hs) m) us))
 
 -- of the field's bytes before the handlers, and behind them, the text before gives enough
-abbrev pub StateWithin : ℕ → ℕ → ℕ → Part → Type 0
-StateWithin long at n (P.Fault w) = Unit {0}
-StateWithin long at n (P.Done to end w) = (at ≤ to) × (to ≤ long) × (n ≤ end) × (end + at * 16 ≤ n + 16 + to * 16)
+abbrev pub StateWithin : ℕ → ℕ → ℕ → PartDue → Type 0
+StateWithin long at n (Err w) = Unit {0}
+StateWithin long at n (Ok y) = (at ≤ y.next) × (y.next ≤ long) × (n ≤ y.end) × (y.end + at * 16 ≤ n + 16 + y.next * 16)
 
 -- a passive, and an active or a row, from behind its name and count on
-abbrev pub PassiveRead : List ℕ → (List ℕ → NameMeaning) → ℕ → ℕ → List ℕ → List ℕ → Part → Type 0
+abbrev pub PassiveRead : List ℕ → (List ℕ → NameMeaning) → ℕ → ℕ → List ℕ → List ℕ → PartDue → Type 0
 PassiveRead text find at n o p r = (es : List TextEvent) (s : List ℕ) → PartAgrees (behaviour_coding es find) text n o p r (passive_declared s (tokens_from text at))
 
-abbrev pub StateDeclared : List ℕ → (List ℕ → NameMeaning) → List ℕ → ℕ → ℕ → ℕ → List ℕ → List ℕ → Part → Type 0
+abbrev pub StateDeclared : List ℕ → (List ℕ → NameMeaning) → List ℕ → ℕ → ℕ → ℕ → List ℕ → List ℕ → PartDue → Type 0
 StateDeclared text find events c at n o p r =
     (es : List TextEvent) → map (name_at text) events ≡ map name_of_event es
     → (s : List ℕ) → PartAgrees (behaviour_coding es find) text n o p r (state_of (after_all with_event [] es) s (body_made c) (tokens_from text at))
 
 -- a behaviour from behind its name and count on
-abbrev pub KindRead : List ℕ → (List ℕ → NameMeaning) → List ℕ → ℕ → ℕ → ℕ → ℕ → List ℕ → List ℕ → Part → Type 0
+abbrev pub KindRead : List ℕ → (List ℕ → NameMeaning) → List ℕ → ℕ → ℕ → ℕ → ℕ → List ℕ → List ℕ → PartDue → Type 0
 KindRead text find events c k at n o p r =
     (es : List TextEvent) → map (name_at text) events ≡ map name_of_event es
     → (s : List ℕ) → PartAgrees (behaviour_coding es find) text n o p r (kind_read (after_all with_event [] es) s c k (tokens_from text at))
-
--- what is at fault in a part is so in the whole
-abbrev pub refused_rights : Rights → Part
-refused_rights (G.Fault w) = P.Fault w
-refused_rights (G.Given to bits) = P.Fault 0

@@ -9,17 +9,19 @@ ghost use Rattle.source_names.specs.Known.{meaning_by};
 ghost use Rattle.source_field.specs.Formula.{Readable};
 ghost use Rattle.source_handlers.specs.Parts.{DueRead, PartWithin};
 ghost use Rattle.source_body.specs.Body.{body_tag, start_declared, StartWordIs, StartWithin, StateRead};
-ghost use Rattle.source_body.specs.Body.{StateWithin, PassiveRead, StateDeclared, KindRead, refused_rights};
+ghost use Rattle.source_body.specs.Body.{StateWithin, PassiveRead, StateDeclared, KindRead};
 ghost use Rattle.lib_base.specs.Words.{byte_values, word_values};
 ghost use Rattle.source_coding.specs.Bounds.{growth, text_bytes};
 ghost use Rattle.spec_language.specs.Limits.{event_limit, most_cells, sheet_bytes};
 
 use sheet_field::{sizes, tags};
+use source_coding::faults::Fault;
 use source_coding::signs;
-use source_declarations::{Rights, fault_in};
-use source_due::{Due, sign_due};
-use source_field::{Cursor, Read};
-use source_handlers::{Part, refused_formula};
+use source_declarations::seen_at;
+use source_due::{Due, sign_due, value_at};
+use source_field::Cursor;
+use source_formula::formula_at;
+use source_handlers::{Part, handlers_at};
 
 // The word that begins a passive, as what is due tells it.
 const PASSIVE: u64 = signs::PASSIVE as u64;
@@ -41,16 +43,6 @@ struct Setting {
     bits: u64,
 }
 
-// What may be seen is at fault, and so the part.
-fn refused_rights(rights: Rights) -> Part
-    ensures { result ≡ refused_rights rights }
-{
-    match rights {
-        Rights::Fault(w) => Part::Fault(w),
-        Rights::Given(_, _) => Part::Fault(0),
-    }
-}
-
 // A passive from behind its name on.
 fn passive_at(
     text: &[u8],
@@ -58,7 +50,7 @@ fn passive_at(
     places: &[usize],
     meanings: &[usize],
     out: &mut [u8],
-) -> Part
+) -> Result<Part, Fault>
     requires readable { Readable text.now cursor places.now meanings.now }
     requires out_len_bound { length out.old ≤ sheet_bytes }
     ensures passive_read { PassiveRead text.now
@@ -68,25 +60,22 @@ fn passive_at(
     ensures out_len_unchanged { length out.new ≡ length out.old }
 {
     let n = cursor.end;
-    let d = sign_due(text, cursor.at, signs::EQUALS);
-    let Due::Found(_, _, next) = d else {
-        return Part::Fault(fault_in(d));
+    let equals = sign_due(text, cursor.at, signs::EQUALS)?;
+    let inner = Cursor {
+        at: equals.next,
+        end: n + sizes::HEADER,
+        cells: 0,
+        ..cursor
     };
-    let mut formula = cursor;
-    formula.at = next;
-    formula.end = n + sizes::HEADER;
-    formula.cells = 0;
-    let r = source_formula::formula_at(text, formula, places, meanings, out);
-    let Read::Done(f, _, end, w) = r else {
-        return refused_formula(r);
-    };
-    let s = source_declarations::seen_at(text, f);
-    let Rights::Given(to, bits) = s else {
-        return refused_rights(s);
-    };
-    let stop = sheet_write::put_viewers(out, end, bits);
+    let formula = formula_at(text, inner, places, meanings, out)?;
+    let seen = seen_at(text, formula.next)?;
+    let stop = sheet_write::put_viewers(out, formula.end, seen.bits);
     sheet_write::enclose(out, n, stop, tags::PASSIVE);
-    Part::Done(to, stop, w)
+    Ok(Part {
+        next: seen.next,
+        end: stop,
+        stray: formula.stray,
+    })
 }
 
 // An active, or a row of so many cells, from its handlers on.
@@ -98,7 +87,7 @@ fn state_with(
     events: &[usize],
     setting: Setting,
     out: &mut [u8],
-) -> Part
+) -> Result<Part, Fault>
     requires readable { Readable text.now cursor places.now meanings.now }
     requires growth_bound { (cursor.end + growth ≤ cursor.at * growth) × ((length events.now ≤ event_limit) × ((cursor.cells ≤ most_cells)
         × ((setting.start < word_values) × ((setting.bits ≤ byte_values) × (length out.old ≤ sheet_bytes))))) }
@@ -110,17 +99,19 @@ fn state_with(
     ensures out_len_unchanged { length out.new ≡ length out.old }
 {
     let n = cursor.end;
-    let mut handlers = cursor;
-    let start = setting.start;
-    let m = sheet_write::put_start(out, n + sizes::HEADER, start as u32, cursor.cells);
-    handlers.end = m;
-    let r = source_handlers::handlers_at(text, handlers, places, meanings, events, out);
-    let Part::Done(to, end, w) = r else {
-        return r;
+    let start = sheet_write::put_start(out, n + sizes::HEADER, setting.start as u32, cursor.cells);
+    let inner = Cursor {
+        end: start,
+        ..cursor
     };
-    let last = sheet_write::put_viewers(out, end, setting.bits);
+    let handlers = handlers_at(text, inner, places, meanings, events, out)?;
+    let last = sheet_write::put_viewers(out, handlers.end, setting.bits);
     sheet_write::enclose(out, n, last, tag_of(cursor.cells));
-    Part::Done(to, last, w)
+    Ok(Part {
+        next: handlers.next,
+        end: last,
+        stray: handlers.stray,
+    })
 }
 
 // The value after `=`.
@@ -130,11 +121,8 @@ fn start_due(text: &[u8], at: usize) -> Due
     ensures due_read { DueRead StartWordIs text.now result (start_declared (tokens_from text.now at)) }
     ensures start_within { StartWithin (length text.now) at result }
 {
-    let d = sign_due(text, at, signs::EQUALS);
-    let Due::Found(_, _, next) = d else {
-        return d;
-    };
-    source_due::value_at(text, next)
+    let equals = sign_due(text, at, signs::EQUALS)?;
+    value_at(text, equals.next)
 }
 
 // An active, or a row of so many cells, from behind its name and count on.
@@ -145,7 +133,7 @@ fn state_at(
     meanings: &[usize],
     events: &[usize],
     out: &mut [u8],
-) -> Part
+) -> Result<Part, Fault>
     requires readable { Readable text.now cursor places.now meanings.now }
     requires events_len_bound { (length events.now ≤ event_limit) × ((cursor.cells ≤ most_cells) × (length out.old ≤ sheet_bytes)) }
     ensures state_declared { StateDeclared text.now
@@ -154,19 +142,15 @@ fn state_at(
     ensures part_within { PartWithin (length text.now) cursor.at cursor.end result }
     ensures out_len_unchanged { length out.new ≡ length out.old }
 {
-    let d = start_due(text, cursor.at);
-    let Due::Found(_, start, next) = d else {
-        return Part::Fault(fault_in(d));
+    let start = start_due(text, cursor.at)?;
+    let seen = seen_at(text, start.next)?;
+    let handlers = Cursor {
+        at: seen.next,
+        ..cursor
     };
-    let s = source_declarations::seen_at(text, next);
-    let Rights::Given(to, bits) = s else {
-        return refused_rights(s);
-    };
-    let mut handlers = cursor;
-    handlers.at = to;
     let setting = Setting {
-        start: start,
-        bits: bits,
+        start: start.number,
+        bits: seen.bits,
     };
     state_with(text, handlers, places, meanings, events, setting, out)
 }
@@ -180,7 +164,7 @@ pub fn kind_at(
     events: &[usize],
     word: u64,
     out: &mut [u8],
-) -> Part
+) -> Result<Part, Fault>
     requires readable { Readable text.now cursor places.now meanings.now }
     requires events_len_bound { (length events.now ≤ event_limit) × ((cursor.cells ≤ most_cells) × (length out.old ≤ sheet_bytes)) }
     ensures kind_read { KindRead text.now

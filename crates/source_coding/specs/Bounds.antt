@@ -23,10 +23,6 @@ largest_negated = 2147483648
 abbrev pub past_negated : ℕ
 past_negated = 2147483649
 
--- the last number of a fault
-abbrev pub last_fault : ℕ
-last_fault = 42
-
 -- a byte of text becomes at most so many of the sheet
 abbrev pub growth : ℕ
 growth = 16

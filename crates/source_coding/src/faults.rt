@@ -1,30 +1,41 @@
-// The numbers of the kinds of faults (specs/Faults.antt has their words), for the code.
-pub const OUTSIDE: u64 = 31;
+// Faults of a text, each with its kind and its place (specs/Faults.antt has the kinds' words).
+ghost use Rattle.std.specs.Prelude.{◌≡◌};
+ghost use Rattle.source_coding.specs.FaultWords.{number};
 
-pub const LARGE_NUMBER: u64 = 32;
+// The kinds, each with its number. docs/SHEETS.md "Faults".
+#[derive(Clone, Copy, PartialEq, Eq, Debug, Drop)]
+pub enum Kind {
+    Outside = 31,
+    LargeNumber = 32,
+    OffScale = 33,
+    TooMany = 34,
+    DeclaredTwice = 35,
+    SecondHandler = 36,
+    TooDeep = 37,
+    UnknownName = 38,
+    NoSuchCell = 39,
+    LongSheet = 40,
+    ShortBuffer = 41,
+    LongText = 42,
+}
 
-pub const OFF_SCALE: u64 = 33;
+impl Kind {
+    pub fn number(self) -> u64
+        ensures { result ≡ number self }
+    {
+        self as u64
+    }
+}
 
-pub const TOO_MANY: u64 = 34;
+// A fault: its kind, and how many bytes of the text stand before it.
+#[derive(Clone, Copy, PartialEq, Eq, Debug, Drop)]
+pub struct Fault {
+    pub kind: Kind,
+    pub place: usize,
+}
 
-pub const DECLARED_TWICE: u64 = 35;
-
-pub const SECOND_HANDLER: u64 = 36;
-
-pub const TOO_DEEP: u64 = 37;
-
-pub const UNKNOWN_NAME: u64 = 38;
-
-pub const NO_SUCH_CELL: u64 = 39;
-
-pub const LONG_SHEET: u64 = 40;
-
-pub const SHORT_BUFFER: u64 = 41;
-
-pub const LONG_TEXT: u64 = 42;
-
-// What a kind weighs beside the place in a fault's word.
-pub const KIND: u64 = 4294967296;
+// The number of a buffer that is too short, which the printing of a sheet answers alone.
+pub const SHORT_BUFFER: u64 = Kind::ShortBuffer as u64;
 
 // What the kind and the line weigh beside the column in assemble's answer.
 pub const TOLD_KIND: u64 = 72057594037927936;

@@ -1,6 +1,10 @@
 -- Players read one after the other: those so far come before those that are left, and their bits are in the word
 -- (`PlayersTurn`). What each return of the readers of players comes to.
-use Rattle.lib_base.proofs.Prelude.{ℕ, ◌≤◌, ◌<◌, ◌+◌, ◌*◌, ◌≡◌, refl, ◌∙◌, sym, ap, ◌||◌, List, [], ◌∷◌, ◌++◌}
+use Rattle.std.specs.Prelude.{Err}
+use Rattle.source_coding.specs.declared.faults.Fault.{Fault}
+use Rattle.source_coding.specs.FaultWords.{fault_of}
+use Rattle.source_language.specs.Faults.{off_scale, too_large}
+use Rattle.lib_base.proofs.Prelude.{ℕ, ◌≤◌, ◌<◌, ◌≡◌, refl, ◌∙◌, sym, ap, ◌||◌, List, ◌∷◌, ◌++◌, []}
 use Rattle.lib_base.proofs.Prelude.{append-nil, length, eqb, ltb, ne_eqb, le-ltb, lt-ltb, ltb-false, arith}
 use Rattle.lib_base.specs.Basics.{All}
 use Rattle.lib_base.proofs.Tools.{split, all_join}
@@ -14,13 +18,8 @@ use Rattle.source_coding.specs.Places.{tokens_from}
 use Rattle.source_tokens.specs.Token.{capped_at, TokenAt}
 use Rattle.source_tokens.specs.declared.Token.{Token}
 use Rattle.source_tokens.specs.declared.Token.TheVariants.{Number, Name, Sign}
-use Rattle.source_due.specs.Due.{SignTold, DueWithin}
-use Rattle.source_due.specs.declared.Due.{Due}
-use Rattle.source_due.specs.declared.Due.TheVariants as D
-use Rattle.source_declarations.specs.Players.{players_said, RightsRead, RightsWithin}
-use Rattle.source_declarations.specs.Written.{due_fault}
-use Rattle.source_declarations.specs.declared.Rights.{Rights}
-use Rattle.source_declarations.specs.declared.Rights.TheVariants.{Given, Fault}
+use Rattle.source_due.specs.Due.{Due, found, SignTold}
+use Rattle.source_declarations.specs.Players.{players_said, Rights, given, RightsRead}
 use Rattle.source_declarations.proofs.Many.{prepended, prepended_none, prepended_cons}
 use Rattle.source_declarations.proofs.Bits.{players_more, players_are}
 use Rattle.source_language.proofs.Fits.{bits_small}
@@ -51,20 +50,17 @@ players_low {text} {at} {here} {bits} t = omega (arith, players_are bits t.found
 
 -- a token that is no number ends them
 players_over : (text : List ℕ) (at here bits : ℕ) → PlayersTurn text at here bits → more_players (tokens_from text here) ≡ got [] (tokens_from text here)
-    → RightsRead text (Given here bits) (players_said (more_players (tokens_from text at)))
+    → RightsRead text (given here bits) (players_said (more_players (tokens_from text at)))
 players_over text at here bits t e =
     let g : more_players (tokens_from text at) ≡ got t.found (tokens_from text here) = t.whole ∙ rw e (ap (λ ns. got ns (tokens_from text here)) (append-nil t.found)) in
     rw g (refl, players_are bits t.found t.low t.gathered)
 
-pub players_at_name : {text : List ℕ} {at here bits : ℕ} (r : Token) (p next : ℕ) → PlayersTurn text at here bits → TokenAt text here r → r ≡ Name p next
-    → RightsRead text (Given here bits) (players_said (more_players (tokens_from text at)))
+pub players_end : {text : List ℕ} {at here bits : ℕ} (r : Token) → PlayersTurn text at here bits → TokenAt text here r → ((p v next : ℕ) → r ≡ Number p v next → ⊥)
+    → RightsRead text (given here bits) (players_said (more_players (tokens_from text at)))
 unfolding more_players
-players_at_name {text} {at} {here} {bits} r p next t h e = let g = rw e at h in players_over text at here bits t (rw g)
-
-pub players_at_sign : {text : List ℕ} {at here bits : ℕ} (r : Token) (p c next : ℕ) → PlayersTurn text at here bits → TokenAt text here r → r ≡ Sign p c next
-    → RightsRead text (Given here bits) (players_said (more_players (tokens_from text at)))
-unfolding more_players
-players_at_sign {text} {at} {here} {bits} r p c next t h e = let g = rw e at h in players_over text at here bits t (rw g)
+players_end (Number p v next) t h k = absurd (k p v next refl)
+players_end {text} {at} {here} {bits} (Name p next) t h k = players_over text at here bits t (rw h)
+players_end {text} {at} {here} {bits} (Sign p c next) t h k = players_over text at here bits t (rw h)
 
 -- a number of the text is as large as the one that stands for it, as far as that counts
 capped_large : (n : ℕ) → largest < capped_at n → largest < n
@@ -73,16 +69,16 @@ capped_large n = split (ltb n 2147483649) (λ e. rw e (λ h. h)) (λ e. rw e (λ
 capped_small : (n : ℕ) → capped_at n ≤ largest → n ≡ capped_at n
 capped_small n = split (ltb n 2147483649) (λ e. rw e (λ h. refl)) (λ e. rw e (λ h. absurd (omega arith)))
 
-pub players_large : {text : List ℕ} {at here bits : ℕ} (r : Token) (p v next w : ℕ) → PlayersTurn text at here bits → TokenAt text here r → r ≡ Number p v next → largest < v
-    → w ≡ 32 * 4294967296 + p → RightsRead text (Fault w) (players_said (more_players (tokens_from text at)))
+pub players_large : {text : List ℕ} {at here bits : ℕ} (r : Token) (p v next : ℕ) (w : Fault) → PlayersTurn text at here bits → TokenAt text here r → r ≡ Number p v next → largest < v
+    → w ≡ fault_of too_large p → RightsRead text (Err w) (players_said (more_players (tokens_from text at)))
 unfolding more_players
 players_large {text} {at} {here} {bits} r p v next w t h e l f =
     let g = rw e at h in
     let b : largest < capped_at g.0 = rw (← g.2) l in
     rw (t.whole, g.1, lt-ltb largest g.0 (capped_large g.0 b)) f
 
-pub players_off : {text : List ℕ} {at here bits : ℕ} (r : Token) (p v next w : ℕ) → PlayersTurn text at here bits → TokenAt text here r → r ≡ Number p v next → v ≤ largest → 7 < v
-    → w ≡ 33 * 4294967296 + p → RightsRead text (Fault w) (players_said (more_players (tokens_from text at)))
+pub players_off : {text : List ℕ} {at here bits : ℕ} (r : Token) (p v next : ℕ) (w : Fault) → PlayersTurn text at here bits → TokenAt text here r → r ≡ Number p v next → v ≤ largest → 7 < v
+    → w ≡ fault_of off_scale p → RightsRead text (Err w) (players_said (more_players (tokens_from text at)))
 unfolding more_players
 players_off {text} {at} {here} {bits} r p v next w t h e l o f =
     let g = rw e at h in
@@ -106,63 +102,38 @@ players_turn {text} {at} {here} {bits} r p v next more t h e l o u q m =
 
 -- ---- players
 
-pub players_numbered : (text : List ℕ) (at : ℕ) (t : Token) (p v next : ℕ) (r : Rights) → TokenAt text at t → t ≡ Number p v next
-    → RightsRead text r (players_said (more_players (tokens_from text at))) → RightsRead text r (players_said (players_of (tokens_from text at)))
-players_numbered text at t p v next r h e g = let k = rw e at h in rw k.1 (rw k.1 at g)
-
-pub players_named : (text : List ℕ) (at : ℕ) (t : Token) (p next w : ℕ) → TokenAt text at t → t ≡ Name p next → w ≡ 31 * 4294967296 + p
-    → RightsRead text (Fault w) (players_said (players_of (tokens_from text at)))
-players_named text at t p next w h e f = let k = rw e at h in rw k f
-
-pub players_other : (text : List ℕ) (at : ℕ) (t : Token) (p c next w : ℕ) → TokenAt text at t → t ≡ Sign p c next → (c ≡ nobody_word → ⊥) → w ≡ 31 * 4294967296 + p
-    → RightsRead text (Fault w) (players_said (players_of (tokens_from text at)))
-players_other text at t p c next w h e d f = let k = rw e at h in rw (k, ne_eqb c nobody_word d) f
-
 pub players_nobody : (text : List ℕ) (at : ℕ) (t : Token) (p c next : ℕ) → TokenAt text at t → t ≡ Sign p c next → c ≡ nobody_word
-    → RightsRead text (Given next 0) (players_said (players_of (tokens_from text at)))
+    → RightsRead text (given next 0) (players_said (players_of (tokens_from text at)))
 unfolding bits_below among_players
 players_nobody text at t p c next h e d = let k = rw (e, d) at h in rw k (refl, refl)
 
--- a reading that begins later stays within the same bounds
-rights_on : (long at later : ℕ) (r : Rights) → at ≤ later → RightsWithin long later r → RightsWithin long at r
-rights_on long at later (Given to bits) h g = (omega arith, g.1, g.2)
-rights_on long at later (Fault w) h g = tt
-
-pub rights_later : (long at : ℕ) (d : Due) (p v next : ℕ) (r : Rights) → DueWithin long at d → d ≡ D.Found p v next → RightsWithin long next r → RightsWithin long at r
-rights_later long at d p v next r h e g = let k = rw e at h in rights_on long at next r (omega arith) g
-
 -- ---- who may send
 
-pub from_unsaid : (text : List ℕ) (at : ℕ) (d : Due) (w : ℕ) → SignTold text at from_word d → d ≡ D.Fault w → RightsRead text (Given at 256) (from_of (tokens_from text at))
+pub from_unsaid : (text : List ℕ) (at : ℕ) (d : Due) (w : Fault) → SignTold text at from_word d → d ≡ Err w → RightsRead text (given at 256) (from_of (tokens_from text at))
 unfolding from_of
 from_unsaid text at d w h e = let g = rw e at h in rw (ne_eqb (sign_at (tokens_from text at)) from_word g.0) (refl, refl)
 
-pub from_said : (text : List ℕ) (at : ℕ) (d : Due) (p v next : ℕ) (r : Rights) → SignTold text at from_word d → d ≡ D.Found p v next
+pub from_said : (text : List ℕ) (at : ℕ) (d : Due) (p v next : ℕ) (r : Rights) → SignTold text at from_word d → d ≡ found p v next
     → RightsRead text r (players_said (players_of (tokens_from text next))) → RightsRead text r (from_of (tokens_from text at))
 unfolding from_of
 from_said text at d p v next r h e g = let k = rw e at h in rw k g
 
 -- ---- who may see
 
-pub seen_later : (long at : ℕ) (d b : Due) (p v after q u next : ℕ) (r : Rights) → DueWithin long at d → d ≡ D.Found p v after → DueWithin long after b → b ≡ D.Found q u next
-    → RightsWithin long next r → RightsWithin long at r
-seen_later long at d b p v after q u next r h e g f k = rights_later long at d p v after r h e (rights_later long after b q u next r g f k)
-
-pub seen_unsaid : (text : List ℕ) (at : ℕ) (d : Due) (w : ℕ) → SignTold text at seen_word d → d ≡ D.Fault w → RightsRead text (Given at 256) (seen_of (tokens_from text at))
+pub seen_unsaid : (text : List ℕ) (at : ℕ) (d : Due) (w : Fault) → SignTold text at seen_word d → d ≡ Err w → RightsRead text (given at 256) (seen_of (tokens_from text at))
 unfolding seen_of
 seen_unsaid text at d w h e = let g = rw e at h in rw (ne_eqb (sign_at (tokens_from text at)) seen_word g.0) (refl, refl)
 
-pub seen_broken : (text : List ℕ) (at : ℕ) (d b : Due) (p v after u w : ℕ) → SignTold text at seen_word d → d ≡ D.Found p v after → SignTold text after by_word b → b ≡ D.Fault u
-    → w ≡ due_fault b → RightsRead text (Fault w) (seen_of (tokens_from text at))
+pub seen_broken : (text : List ℕ) (at : ℕ) (d b : Due) (p v after : ℕ) (w : Fault) → SignTold text at seen_word d → d ≡ found p v after → SignTold text after by_word b → b ≡ Err w
+    → RightsRead text (Err w) (seen_of (tokens_from text at))
 unfolding seen_of past_sign
-seen_broken text at d b p v after u w h e g f k =
+seen_broken text at d b p v after w h e g f =
     let x = rw e at h in
     let y = rw f at g in
-    let z = rw f at k in
-    rw (x, ne_eqb (sign_at (tokens_from text after)) by_word y.0) (z ∙ y.1)
+    rw (x, ne_eqb (sign_at (tokens_from text after)) by_word y.0) y.1
 
-pub seen_said : (text : List ℕ) (at : ℕ) (d b : Due) (p v after q u next : ℕ) (r : Rights) → SignTold text at seen_word d → d ≡ D.Found p v after → SignTold text after by_word b
-    → b ≡ D.Found q u next → RightsRead text r (players_said (players_of (tokens_from text next))) → RightsRead text r (seen_of (tokens_from text at))
+pub seen_said : (text : List ℕ) (at : ℕ) (d b : Due) (p v after q u next : ℕ) (r : Rights) → SignTold text at seen_word d → d ≡ found p v after → SignTold text after by_word b
+    → b ≡ found q u next → RightsRead text r (players_said (players_of (tokens_from text next))) → RightsRead text r (seen_of (tokens_from text at))
 unfolding seen_of past_sign
 seen_said text at d b p v after q u next r h e g f k =
     let x = rw e at h in

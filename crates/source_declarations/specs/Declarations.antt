@@ -1,6 +1,6 @@
 -- What the readers of parameters and of events promise: that they read what the reader's functions read, where the
 -- names stand that are declared, and the events' fields.
-use Rattle.std.specs.Prelude.{ℕ, ◌+◌, ◌*◌, ◌≤◌, ◌≡◌, List, [], ◌++◌, map, length, take, ltb, eqb}
+use Rattle.std.specs.Prelude.{Result, Ok, Err, ℕ, ◌+◌, ◌*◌, ◌≤◌, ◌≡◌, List, ◌++◌, map, length, take, ltb, eqb, []}
 use Rattle.std.proofs.Math.Option.{Option}
 use Rattle.lib_base.specs.Basics.{pick}
 use Rattle.spec_language.specs.Limits.{event_limit}
@@ -12,25 +12,36 @@ use Rattle.source_language.specs.Limits.{largest, with_parameter, with_event}
 use Rattle.source_language.specs.Meaning.{signal_of}
 use Rattle.source_language.specs.Reader.{Phrased, bad, got, then_phrase, past_sign, number_due, from_of, parameter_of, event_declared, many_of}
 use Rattle.source_coding.specs.Bounds.{text_bytes, growth}
-use Rattle.source_coding.specs.FaultWords.{fault_word}
+use Rattle.source_coding.specs.declared.faults.Fault.{Fault}
+use Rattle.source_coding.specs.FaultWords.{fault_of}
 use Rattle.source_coding.specs.Places.{tokens_from, name_at}
 use Rattle.source_coding.specs.Sizes.{events_size}
-use Rattle.source_due.specs.declared.Due.{Due}
-use Rattle.source_due.specs.declared.Due.TheVariants as D
+use Rattle.source_due.specs.Due.{Due}
 use Rattle.source_declarations.specs.Players.{rights_number}
 use Rattle.source_declarations.specs.declared.Event.{Event}
-use Rattle.source_declarations.specs.declared.Event.TheVariants as E
 use Rattle.source_declarations.specs.declared.Declared.{Declared}
-use Rattle.source_declarations.specs.declared.Declared.TheVariants.{Done, Fault}
+
+-- an event, and declarations of a kind, or a fault
+abbrev pub TextEventDue : Type 0
+TextEventDue = Result Event Fault
+
+abbrev pub named : ℕ → ℕ → ℕ → ℕ → TextEventDue
+named q rank bits to = Ok (record { place = q; rank = rank; bits = bits; next = to })
+
+abbrev pub AllDeclared : Type 0
+AllDeclared = Result Declared Fault
+
+abbrev pub declared : ℕ → ℕ → ℕ → AllDeclared
+declared to count end = Ok (record { next = to; count = count; end = end })
 
 -- ---- one declaration
 
 -- the parameter's name stands at q, and it is read up to place `to`
 abbrev pub ParameterRead : List ℕ → Due → Phrased Parameter → Type 0
-ParameterRead text (D.Fault w) (bad k p) = w ≡ fault_word k p
-ParameterRead text (D.Fault w) (got x us) = ⊥
-ParameterRead text (D.Found q v to) (bad k p) = ⊥
-ParameterRead text (D.Found q v to) (got (parameter s d) us) = (us ≡ tokens_from text to) × (s ≡ name_at text q)
+ParameterRead text (Err w) (bad k p) = w ≡ fault_of k p
+ParameterRead text (Err w) (got x us) = ⊥
+ParameterRead text (Ok f) (bad k p) = ⊥
+ParameterRead text (Ok f) (got (parameter s d) us) = (us ≡ tokens_from text f.next) × (s ≡ name_at text f.place)
 
 -- what follows an event's rank n, which stands at q, and what follows its name
 abbrev pub sent_of : List ℕ → ℕ → ℕ → List SheetToken → Phrased TextEvent
@@ -46,20 +57,20 @@ pub record EventFound (text : List ℕ) (q rank bits to : ℕ) (s : List ℕ) (n
   pub ranked : rank ≡ n
   pub sent : bits ≡ rights_number m
 
-abbrev pub TextEventRead : List ℕ → Event → Phrased TextEvent → Type 0
-TextEventRead text (E.Fault w) (bad k p) = w ≡ fault_word k p
-TextEventRead text (E.Fault w) (got x us) = ⊥
-TextEventRead text (E.Named q rank bits to) (bad k p) = ⊥
-TextEventRead text (E.Named q rank bits to) (got (event s n m) us) = EventFound text q rank bits to s n m us
+abbrev pub TextEventRead : List ℕ → TextEventDue → Phrased TextEvent → Type 0
+TextEventRead text (Err w) (bad k p) = w ≡ fault_of k p
+TextEventRead text (Err w) (got x us) = ⊥
+TextEventRead text (Ok e) (bad k p) = ⊥
+TextEventRead text (Ok e) (got (event s n m) us) = EventFound text e.place e.rank e.bits e.next s n m us
 
 -- what is read from place `at` on stays within a text of so many bytes
 abbrev pub ParameterWithin : ℕ → ℕ → Due → Type 0
-ParameterWithin long at (D.Fault w) = Unit {0}
-ParameterWithin long at (D.Found q v to) = (at ≤ to) × (to ≤ long)
+ParameterWithin long at (Err w) = Unit {0}
+ParameterWithin long at (Ok f) = (at ≤ f.next) × (f.next ≤ long)
 
-abbrev pub EventWithin : ℕ → ℕ → Event → Type 0
-EventWithin long at (E.Fault w) = Unit {0}
-EventWithin long at (E.Named q rank bits to) = (at ≤ to) × (to ≤ long) × (rank ≤ 15) × (bits ≤ 256)
+abbrev pub EventWithin : ℕ → ℕ → TextEventDue → Type 0
+EventWithin long at (Err w) = Unit {0}
+EventWithin long at (Ok e) = (at ≤ e.next) × (e.next ≤ long) × (e.rank ≤ 15) × (e.bits ≤ 256)
 
 -- ---- all of a kind
 
@@ -98,19 +109,19 @@ pub record EventsHeld (text names : List ℕ) (n : ℕ) (o p : List ℕ) (to cou
   pub written : end ≤ length o → take end p ≡ take n o ++ encode_events (map signal_of es)
 
 -- the answer r is what the reader finds in the text
-abbrev pub ParametersRead : List ℕ → List ℕ → Declared → Phrased (List Parameter) → Type 0
-ParametersRead text names (Fault w) (bad k p) = w ≡ fault_word k p
-ParametersRead text names (Fault w) (got ps us) = ⊥
-ParametersRead text names (Done to count end) (bad k p) = ⊥
-ParametersRead text names (Done to count end) (got ps us) = ParametersHeld text names to count end ps us
+abbrev pub ParametersRead : List ℕ → List ℕ → AllDeclared → Phrased (List Parameter) → Type 0
+ParametersRead text names (Err w) (bad k p) = w ≡ fault_of k p
+ParametersRead text names (Err w) (got ps us) = ⊥
+ParametersRead text names (Ok d) (bad k p) = ⊥
+ParametersRead text names (Ok d) (got ps us) = ParametersHeld text names d.next d.count d.end ps us
 
-abbrev pub EventsRead : List ℕ → List ℕ → ℕ → List ℕ → List ℕ → Declared → Phrased (List TextEvent) → Type 0
-EventsRead text names n o p (Fault w) (bad k q) = w ≡ fault_word k q
-EventsRead text names n o p (Fault w) (got es us) = ⊥
-EventsRead text names n o p (Done to count end) (bad k q) = ⊥
-EventsRead text names n o p (Done to count end) (got es us) = EventsHeld text names n o p to count end es us
+abbrev pub EventsRead : List ℕ → List ℕ → ℕ → List ℕ → List ℕ → AllDeclared → Phrased (List TextEvent) → Type 0
+EventsRead text names n o p (Err w) (bad k q) = w ≡ fault_of k q
+EventsRead text names n o p (Err w) (got es us) = ⊥
+EventsRead text names n o p (Ok d) (bad k q) = ⊥
+EventsRead text names n o p (Ok d) (got es us) = EventsHeld text names n o p d.next d.count d.end es us
 
 -- a reading from place `at` on stays within a text of so many bytes, and a byte of text gives at most sixteen
-abbrev pub DeclaredWithin : ℕ → ℕ → Declared → Type 0
-DeclaredWithin long at (Fault w) = Unit {0}
-DeclaredWithin long at (Done to count end) = (at ≤ to) × (to ≤ long) × (end ≤ to * 16)
+abbrev pub DeclaredWithin : ℕ → ℕ → AllDeclared → Type 0
+DeclaredWithin long at (Err w) = Unit {0}
+DeclaredWithin long at (Ok d) = (at ≤ d.next) × (d.next ≤ long) × (d.end ≤ d.next * 16)

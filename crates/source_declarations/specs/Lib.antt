@@ -1,3 +1,2 @@
 pub mod Players
 pub mod Declarations
-pub mod Written

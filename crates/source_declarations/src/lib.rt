@@ -13,46 +13,40 @@ ghost use Rattle.source_coding.specs.Places.{tokens_from, name_at, names_held};
 ghost use Rattle.source_declarations.specs.Players.{players_said, RightsRead, RightsWithin};
 ghost use Rattle.source_declarations.specs.Declarations.{ranked_of, ParameterRead, ParameterWithin, TextEventRead, EventWithin};
 ghost use Rattle.source_declarations.specs.Declarations.{parameters_declared, events_declared, ParametersRead, EventsReadable, EventsRead, DeclaredWithin};
-ghost use Rattle.source_declarations.specs.Written.{due_fault};
 ghost use Rattle.source_coding.specs.Bounds.{growth, name_limit, text_bytes};
 ghost use Rattle.spec_language.specs.Limits.{event_limit, highest_player};
 
 use sheet_write::UNSAID;
-use source_coding::{faults, limits, signs};
-use source_due::{Due, fault_word};
+use source_coding::faults::{Fault, Kind};
+use source_coding::{limits, signs};
+use source_due::{Due, Found, name_due, number_due, sign_due};
 use source_tokens::Token;
 use spec_language::limits as sheet;
 
-// Who may send or see: the place behind it, and the players' bits, 256 where nothing is said; or a fault's word.
-#[derive(Drop)]
-pub enum Rights {
-    Given(usize, u64),
-    Fault(u64),
+// Who may send or see: the place behind it, and the players' bits, 256 where nothing is said.
+#[derive(Clone, Copy, Drop)]
+pub struct Given {
+    pub next: usize,
+    pub bits: u64,
 }
 
-// An event: the place of its name, its rank, its players' bits, and the place behind it; or a fault's word.
-#[derive(Drop)]
-enum Event {
-    Named(usize, u64, u64, usize),
-    Fault(u64),
+pub type Rights = Result<Given, Fault>;
+
+// An event: the place of its name, its rank, its players' bits, and the place behind it.
+#[derive(Clone, Copy, Drop)]
+struct Event {
+    place: usize,
+    rank: u64,
+    bits: u64,
+    next: usize,
 }
 
-// Declarations of a kind: the place behind them, how many they are, and the end of the bytes written; or a fault's
-// word.
-#[derive(Drop)]
-pub enum Declared {
-    Done(usize, usize, usize),
-    Fault(u64),
-}
-
-// The word of a fault; 0 for none.
-pub fn fault_in(due: Due) -> u64
-    ensures { result ≡ due_fault due }
-{
-    let Due::Fault(w) = due else {
-        return 0;
-    };
-    w
+// Declarations of a kind: the place behind them, how many they are, and the end of the bytes written.
+#[derive(Clone, Copy, Drop)]
+pub struct Declared {
+    pub next: usize,
+    pub count: usize,
+    pub end: usize,
 }
 
 // The bits of players, with the one of this player.
@@ -73,25 +67,23 @@ fn more_players(text: &[u8], at: usize) -> Rights
     let mut here = at;
     let mut bits = 0u64;
     loop {
-        let t = source_tokens::token_at(text, here);
-        match t {
-            Token::Name(_, _) => {
-                return Rights::Given(here, bits);
-            }
-            Token::Sign(_, _, _) => {
-                return Rights::Given(here, bits);
-            }
-            Token::Number(p, v, next) => {
-                if limits::LARGEST < v {
-                    return Rights::Fault(fault_word(faults::LARGE_NUMBER, p));
-                }
-                if limits::HIGHEST_PLAYER < v {
-                    return Rights::Fault(fault_word(faults::OFF_SCALE, p));
-                }
-                bits = with_player(bits, v);
-                here = next;
-            }
+        let Token::Number(place, player, next) = source_tokens::token_at(text, here) else {
+            return Ok(Given { next: here, bits });
+        };
+        if limits::LARGEST < player {
+            return Err(Fault {
+                kind: Kind::LargeNumber,
+                place,
+            });
         }
+        if limits::HIGHEST_PLAYER < player {
+            return Err(Fault {
+                kind: Kind::OffScale,
+                place,
+            });
+        }
+        bits = with_player(bits, player);
+        here = next;
     }
 }
 
@@ -102,15 +94,20 @@ fn players_at(text: &[u8], at: usize) -> Rights
     ensures rights_read { RightsRead text.now result (players_said (players_of (tokens_from text.now at))) }
     ensures rights_within { RightsWithin (length text.now) at result }
 {
-    let t = source_tokens::token_at(text, at);
-    match t {
+    match source_tokens::token_at(text, at) {
         Token::Number(_, _, _) => more_players(text, at),
-        Token::Name(p, _) => Rights::Fault(fault_word(faults::OUTSIDE, p)),
-        Token::Sign(p, c, next) => {
+        Token::Name(place, _) => Err(Fault {
+            kind: Kind::Outside,
+            place,
+        }),
+        Token::Sign(place, c, next) => {
             if c != signs::NOBODY {
-                return Rights::Fault(fault_word(faults::OUTSIDE, p));
+                return Err(Fault {
+                    kind: Kind::Outside,
+                    place,
+                });
             }
-            Rights::Given(next, 0)
+            Ok(Given { next, bits: 0 })
         }
     }
 }
@@ -122,11 +119,13 @@ fn from_at(text: &[u8], at: usize) -> Rights
     ensures rights_read { RightsRead text.now result (from_of (tokens_from text.now at)) }
     ensures rights_within { RightsWithin (length text.now) at result }
 {
-    let from = source_due::sign_due(text, at, signs::FROM);
-    let Due::Found(_, _, next) = from else {
-        return Rights::Given(at, UNSAID);
+    let Ok(from) = sign_due(text, at, signs::FROM) else {
+        return Ok(Given {
+            next: at,
+            bits: UNSAID,
+        });
     };
-    players_at(text, next)
+    players_at(text, from.next)
 }
 
 // Who may see a behaviour, `seen by ..`.
@@ -136,33 +135,36 @@ pub fn seen_at(text: &[u8], at: usize) -> Rights
     ensures rights_read { RightsRead text.now result (seen_of (tokens_from text.now at)) }
     ensures rights_within { RightsWithin (length text.now) at result }
 {
-    let seen = source_due::sign_due(text, at, signs::SEEN);
-    let Due::Found(_, _, after) = seen else {
-        return Rights::Given(at, UNSAID);
+    let Ok(seen) = sign_due(text, at, signs::SEEN) else {
+        return Ok(Given {
+            next: at,
+            bits: UNSAID,
+        });
     };
-    let by = source_due::sign_due(text, after, signs::BY);
-    let Due::Found(_, _, next) = by else {
-        return Rights::Fault(fault_in(by));
-    };
-    players_at(text, next)
+    let by = sign_due(text, seen.next, signs::BY)?;
+    players_at(text, by.next)
 }
 
-// The parameter whose name stands at q, from the place behind that on: its default value, where it has one.
-fn default_at(text: &[u8], q: usize, at: usize) -> Due
+// The parameter whose name stands at a place, from the place behind that on: its default value, where it has one.
+fn default_at(text: &[u8], place: usize, at: usize) -> Due
     requires text_len_bound { length text.now ≤ text_bytes }
     requires at_in_bounds { at ≤ length text.now }
-    ensures parameter_read { ParameterRead text.now result (default_of (name_at text.now q) (tokens_from text.now at)) }
+    ensures parameter_read { ParameterRead text.now result (default_of (name_at text.now place) (tokens_from text.now at)) }
     ensures parameter_within { ParameterWithin (length text.now) at result }
 {
-    let equals = source_due::sign_due(text, at, signs::EQUALS);
-    let Due::Found(_, _, after) = equals else {
-        return Due::Found(q, 0, at);
+    let Ok(equals) = sign_due(text, at, signs::EQUALS) else {
+        return Ok(Found {
+            place,
+            number: 0,
+            next: at,
+        });
     };
-    let value = source_due::value_at(text, after);
-    let Due::Found(_, _, next) = value else {
-        return value;
-    };
-    Due::Found(q, 0, next)
+    let value = source_due::value_at(text, equals.next)?;
+    Ok(Found {
+        place,
+        number: 0,
+        next: value.next,
+    })
 }
 
 // A parameter, from the place behind its word on, which stands at p: the place of its name, and the place behind it.
@@ -177,20 +179,23 @@ fn parameter_at(text: &[u8], p: usize, at: usize, names: &[usize], count: usize)
     ensures parameter_within { ParameterWithin (length text.now) at result }
 {
     if sheet::PARAMETERS <= count {
-        return Due::Fault(fault_word(faults::TOO_MANY, p));
+        return Err(Fault {
+            kind: Kind::TooMany,
+            place: p,
+        });
     }
-    let name = source_due::name_due(text, at);
-    let Due::Found(q, _, next) = name else {
-        return name;
-    };
-    if source_names::is_among(text, q, names, count) {
-        return Due::Fault(fault_word(faults::DECLARED_TWICE, q));
+    let Found { place, next, .. } = name_due(text, at)?;
+    if source_names::is_among(text, place, names, count) {
+        return Err(Fault {
+            kind: Kind::DeclaredTwice,
+            place,
+        });
     }
-    default_at(text, q, next)
+    default_at(text, place, next)
 }
 
 // The parameters from place `at` on. The places of their names are the first of `names`.
-pub fn parameters_at(text: &[u8], at: usize, names: &mut [usize]) -> Declared
+pub fn parameters_at(text: &[u8], at: usize, names: &mut [usize]) -> Result<Declared, Fault>
     requires text_len_bound { length text.now ≤ text_bytes }
     requires at_in_bounds { at ≤ length text.now }
     requires names_len { length names.old ≡ name_limit }
@@ -201,47 +206,52 @@ pub fn parameters_at(text: &[u8], at: usize, names: &mut [usize]) -> Declared
     let mut here = at;
     let mut count = 0usize;
     loop {
-        let word = source_due::sign_due(text, here, signs::PARAM);
-        let Due::Found(p, _, after) = word else {
-            return Declared::Done(here, count, 0);
+        let Ok(word) = sign_due(text, here, signs::PARAM) else {
+            return Ok(Declared {
+                next: here,
+                count,
+                end: 0,
+            });
         };
-        let one = parameter_at(text, p, after, names, count);
-        let Due::Found(q, _, next) = one else {
-            return Declared::Fault(fault_in(one));
-        };
-        names[count] = q;
-        count = count + 1;
-        here = next;
+        let parameter = parameter_at(text, word.place, word.next, names, count)?;
+        names[count] = parameter.place;
+        count += 1;
+        here = parameter.next;
     }
 }
 
-// The event whose name stands at q, from the place behind that on.
-fn ranked_at(text: &[u8], q: usize, at: usize) -> Event
+// The event whose name stands at a place, from the place behind that on.
+fn ranked_at(text: &[u8], place: usize, at: usize) -> Result<Event, Fault>
     requires text_len_bound { length text.now ≤ text_bytes }
     requires at_in_bounds { at ≤ length text.now }
-    ensures text_event_read { TextEventRead text.now result (ranked_of (name_at text.now q) (tokens_from text.now at)) }
+    ensures text_event_read { TextEventRead text.now result (ranked_of (name_at text.now place) (tokens_from text.now at)) }
     ensures event_within { EventWithin (length text.now) at result }
 {
-    let word = source_due::sign_due(text, at, signs::RANK);
-    let Due::Found(_, _, after) = word else {
-        return Event::Fault(fault_in(word));
-    };
-    let rank = source_due::number_due(text, after, limits::LARGEST);
-    let Due::Found(p, n, next) = rank else {
-        return Event::Fault(fault_in(rank));
-    };
-    if (sheet::HIGHEST_PRIORITY as u64) < n {
-        return Event::Fault(fault_word(faults::OFF_SCALE, p));
+    let word = sign_due(text, at, signs::RANK)?;
+    let rank = number_due(text, word.next, limits::LARGEST)?;
+    if (sheet::HIGHEST_PRIORITY as u64) < rank.number {
+        return Err(Fault {
+            kind: Kind::OffScale,
+            place: rank.place,
+        });
     }
-    let rights = from_at(text, next);
-    match rights {
-        Rights::Given(end, bits) => Event::Named(q, n, bits, end),
-        Rights::Fault(w) => Event::Fault(w),
-    }
+    let Given { next, bits } = from_at(text, rank.next)?;
+    Ok(Event {
+        place,
+        rank: rank.number,
+        bits,
+        next,
+    })
 }
 
 // An event, from the place behind its word on, which stands at p.
-fn event_from(text: &[u8], p: usize, at: usize, events: &[usize], count: usize) -> Event
+fn event_from(
+    text: &[u8],
+    p: usize,
+    at: usize,
+    events: &[usize],
+    count: usize,
+) -> Result<Event, Fault>
     requires text_len_bound { length text.now ≤ text_bytes }
     requires at_in_bounds { at ≤ length text.now }
     requires p_le_at { p ≤ at }
@@ -252,21 +262,30 @@ fn event_from(text: &[u8], p: usize, at: usize, events: &[usize], count: usize) 
     ensures event_within { EventWithin (length text.now) at result }
 {
     if sheet::EVENTS <= count {
-        return Event::Fault(fault_word(faults::TOO_MANY, p));
+        return Err(Fault {
+            kind: Kind::TooMany,
+            place: p,
+        });
     }
-    let name = source_due::name_due(text, at);
-    let Due::Found(q, _, next) = name else {
-        return Event::Fault(fault_in(name));
-    };
-    if source_names::is_among(text, q, events, count) {
-        return Event::Fault(fault_word(faults::DECLARED_TWICE, q));
+    let Found { place, next, .. } = name_due(text, at)?;
+    if source_names::is_among(text, place, events, count) {
+        return Err(Fault {
+            kind: Kind::DeclaredTwice,
+            place,
+        });
     }
-    ranked_at(text, q, next)
+    ranked_at(text, place, next)
 }
 
 // The events from place `at` on. The places of their names are the first of `events`; their fields are written from
 // place n on, as far as there is room for each.
-pub fn events_at(text: &[u8], at: usize, events: &mut [usize], out: &mut [u8], n: usize) -> Declared
+pub fn events_at(
+    text: &[u8],
+    at: usize,
+    events: &mut [usize],
+    out: &mut [u8],
+    n: usize,
+) -> Result<Declared, Fault>
     requires { EventsReadable text.now at events.old n }
     ensures events_read { EventsRead text.now events.new n out.old out.new result
         (events_declared (tokens_from text.now at)) }
@@ -277,21 +296,17 @@ pub fn events_at(text: &[u8], at: usize, events: &mut [usize], out: &mut [u8], n
     let mut count = 0usize;
     let mut end = n;
     loop {
-        let word = source_due::sign_due(text, here, signs::EVENT);
-        let Due::Found(p, _, after) = word else {
-            return Declared::Done(here, count, end);
+        let Ok(word) = sign_due(text, here, signs::EVENT) else {
+            return Ok(Declared {
+                next: here,
+                count,
+                end,
+            });
         };
-        let one = event_from(text, p, after, events, count);
-        match one {
-            Event::Fault(w) => {
-                return Declared::Fault(w);
-            }
-            Event::Named(q, rank, bits, next) => {
-                events[count] = q;
-                end = sheet_write::put_event(out, end, rank as u8, bits);
-                count = count + 1;
-                here = next;
-            }
-        }
+        let event = event_from(text, word.place, word.next, events, count)?;
+        events[count] = event.place;
+        end = sheet_write::put_event(out, end, event.rank as u8, event.bits);
+        count += 1;
+        here = event.next;
     }
 }

@@ -1,6 +1,6 @@
 -- The tokens worked out from the bytes of events, handlers and behaviours are those of the text that describes them. By
 -- induction on the sheet: the fields of one tag end where another tag begins.
-use Rattle.lib_base.proofs.Prelude.{ℕ, ◌≤◌, ◌<◌, ◌+◌, ◌-◌, suc, zero, ◌^◌, ◌≡◌, refl, ◌∙◌, sym, ap, ◌≢◌, Option, some}
+use Rattle.lib_base.proofs.Prelude.{ℕ, ◌≤◌, ◌<◌, ◌+◌, suc, zero, ◌^◌, ◌≡◌, refl, ◌∙◌, sym, ap, ◌≢◌, Option, some}
 use Rattle.lib_base.proofs.Prelude.{none, List, [], ◌∷◌, ◌++◌, append_assoc, length, get_or, length-append, add-one}
 use Rattle.lib_base.proofs.Prelude.{ne_eqb, le-ltb, arith}
 use Rattle.lib_base.specs.Basics.{All}

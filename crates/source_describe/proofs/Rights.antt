@@ -1,5 +1,5 @@
 -- The tokens of who may send or see, bit by bit of a byte, are those of the players in it. By induction on the bits.
-use Rattle.lib_base.proofs.Prelude.{ℕ, ◌<◌, ◌+◌, suc, zero, ◌*◌, ◌%◌, ◌/◌, ◌^◌, ◌≡◌, refl, ◌∙◌, sym, ap, ◌≢◌, List, []}
+use Rattle.lib_base.proofs.Prelude.{ℕ, ◌<◌, suc, zero, ◌*◌, ◌%◌, ◌/◌, ◌^◌, ◌≡◌, refl, ◌∙◌, sym, ap, ◌≢◌, List, []}
 use Rattle.lib_base.proofs.Prelude.{◌∷◌, ◌++◌, eqb, add-one, eqb-true, eqb-false, arith}
 use native.Mathlib.Nat.{div-div-eq-div-mul, pow-succ'}
 use Rattle.lib_base.proofs.Tools.{split}

@@ -22,14 +22,15 @@ use Rattle.spec_language.specs.Sheet.{params_of_entries}
 use Rattle.source_rendering.proofs.Lengths.{described_short}
 use Rattle.source_pen.specs.declared.Pen.{Pen}
 use Rattle.source_pen.specs.Written.{written_after, Penned}
+use Rattle.source_pen.proofs.Pens.{penned_as}
 use Rattle.source_pen.proofs.Texts.{described_written}
 use Rattle.back_compile.specs.Number.{number_on}
 use Rattle.back_compile.proofs.AcceptedExactly.{accepted_exactly}
 use Rattle.sheet_walk.specs.Fields.{past_fields}
 use Rattle.source_walk.specs.Fields.{needed_in}
 use Rattle.source_describe.specs.Walk.{sheet_tokens}
-use Rattle.source_terms.specs.Put.{TokensPut, start_pen}
-use Rattle.source_describe.specs.Describing.{text_delivered, describe_on}
+use Rattle.source_terms.specs.Put.{TokensPut}
+use Rattle.source_describe.specs.Describing.{text_delivered, TextPut, describe_on}
 use Rattle.source_describe.proofs.Declarations.{past_events, behaviour_tag_law, signals_walk, entries_walk}
 use Rattle.source_walk.proofs.Needed.{needed_entries}
 
@@ -60,6 +61,20 @@ sheet_walks s f =
     )
     (parameters_on (params_of_entries xs) 0 (event_tokens (described_events 0 rs) ws))
 
+-- ---- a text from the buffer's start on
+
+pub text_put : {a b : Pen} {p : List ℕ} {ts : List SheetToken} → a.at ≡ 0 → a.last ≡ 0 → TokensPut a b ts → p ≡ b.out.now
+    → TextPut a.out.now p b.at ts
+text_put {a} {b} {p} {ts} z l w o =
+    let first : written_after a.last ts ≡ written_after 0 ts = ap (λ (x : ℕ). written_after x ts) l in
+    let d : length (written_after 0 ts) ≤ 65536 → Penned a b (written_after 0 ts) = λ h.
+    let g : a.at + length (written_after a.last ts) ≤ 65536 = rw (z, first) (omega (arith, h)) in
+    penned_as (w.tokens g).penned first in
+    record {
+      counted = λ h. let e = d h in omega (arith, e.counted);
+      whole = λ h k. let e = d h in o ∙ (sym (take-append-drop b.at b.out.now) ∙ rw (e.bytes k, e.rest k, z) refl);
+    }
+
 -- ---- an accepted sheet
 
 module _ (v : ℕ → ℕ) (s : Sheet) (f : SheetFits s) (k : Known (fill v s)) where
@@ -74,20 +89,16 @@ module _ (v : ℕ → ℕ) (s : Sheet) (f : SheetFits s) (k : Known (fill v s)) 
   short : length (described s) ≤ 65536
   short = described_short v s f names_known_law
 
-  penned : {o p : List ℕ} {pen : Pen} → TokensPut o p start_pen pen (sheet_tokens (encode s)) → Penned o p start_pen pen (described s)
-  penned w =
-      let h : 0 + length (written_after 0 (sheet_tokens (encode s))) ≤ 65536 = rw walked (omega (arith, short)) in
-      rw (sym walked) (w.tokens h).penned
+  fits : length (written_after 0 (sheet_tokens (encode s))) ≤ 65536
+  fits = rw walked (omega (arith, short))
 
-  pub counts : {o p : List ℕ} {pen : Pen} → TokensPut o p start_pen pen (sheet_tokens (encode s)) → pen.at ≡ length (described s)
-  counts {o} {p} {pen} w = let d = penned w in omega (arith, d.counted)
+  pub counts : {o p : List ℕ} {n : ℕ} → TextPut o p n (sheet_tokens (encode s)) → n ≡ length (described s)
+  counts w = rw (sym walked) (w.counted fits)
 
-  pub writes : {o p : List ℕ} {pen : Pen} → TokensPut o p start_pen pen (sheet_tokens (encode s)) → length (described s) ≤ length o → p ≡ described s ++ drop (length (described s)) o
-  writes {o} {p} {pen} w h =
-      let d = penned w in
-      let n : pen.at ≡ length (described s) = counts w in
-      let g : pen.at ≤ length o = omega arith in
-      sym (take-append-drop pen.at p) ∙ (rw (d.bytes g, d.rest g, n))
+  pub writes : {o p : List ℕ} {n : ℕ} → TextPut o p n (sheet_tokens (encode s)) → length (described s) ≤ length o → p ≡ described s ++ drop (length (described s)) o
+  writes {o} {p} {n} w h =
+      let c : n ≡ length (described s) = counts w in
+      rw (walked, c) at (w.whole fits (omega arith))
 
 -- what is known of a sheet that compile accepts with 32 bytes lent
 pub accepted_is : (b : List ℕ) → All (λ x. x < 256) b → number_on b (replicate 32 0) ≡ 0
@@ -109,28 +120,28 @@ module _ (b : List ℕ) (bytes : All (λ x. x < 256) b) {m : ℕ} (e : m ≡ num
   opened buffer s q = rw (eq-eqb (number_on b (replicate 32 0)) 0 (sym e ∙ z), q)
 
   -- the first walk counted so many bytes, and the buffer has fewer
-  pub describe_short : {o p : List ℕ} {pen : Pen} (buffer : List ℕ) → TokensPut o p start_pen pen (sheet_tokens b) → length buffer < pen.at
+  pub describe_short : {o p : List ℕ} {k : ℕ} (buffer : List ℕ) → TextPut o p k (sheet_tokens b) → length buffer < k
       → answered 41 buffer ≡ describe_on b buffer
-  describe_short {o} {p} {pen} buffer w h =
+  describe_short {o} {p} {k} buffer w h =
       let r = accepted_is b bytes (sym e ∙ z) in
       let n = counts (get (replicate 32 0)) r.0 r.2 r.3 (rw (sym r.1) at w) in
       sym (opened buffer r.0 r.4 ∙ rw (lt-ltb (length buffer) (length (described r.0)) (omega arith)))
 
   -- or as many, and the second wrote them
-  pub describe_done : {o p q : List ℕ} {pen after : Pen} (buffer : List ℕ) → TokensPut o p start_pen pen (sheet_tokens b) → pen.at ≤ length buffer
-      → TokensPut buffer q start_pen after (sheet_tokens b) → answered (4294967296 + pen.at) q ≡ describe_on b buffer
-  describe_done {o} {p} {q} {pen} {after} buffer w h u =
+  pub describe_done : {o p q : List ℕ} {k l : ℕ} (buffer : List ℕ) → TextPut o p k (sheet_tokens b) → k ≤ length buffer
+      → TextPut buffer q l (sheet_tokens b) → answered (4294967296 + k) q ≡ describe_on b buffer
+  describe_done {o} {p} {q} {k} {l} buffer w h u =
       let r = accepted_is b bytes (sym e ∙ z) in
       let v = get (replicate 32 0) in
       let n = counts v r.0 r.2 r.3 (rw (sym r.1) at w) in
-      let l : length (described r.0) ≤ length buffer = omega arith in
-      let d = writes v r.0 r.2 r.3 (rw (sym r.1) at u) l in
-      sym (opened buffer r.0 r.4 ∙ rw (le-ltb (length buffer) (length (described r.0)) l, n, d))
+      let few : length (described r.0) ≤ length buffer = omega arith in
+      let d = writes v r.0 r.2 r.3 (rw (sym r.1) at u) few in
+      sym (opened buffer r.0 r.4 ∙ rw (le-ltb (length buffer) (length (described r.0)) few, n, d))
 
   -- or the buffer has room for every text, and nothing is counted before
-  pub describe_whole : {q : List ℕ} {after : Pen} (buffer : List ℕ) → 65536 ≤ length buffer → TokensPut buffer q start_pen after (sheet_tokens b)
-      → answered (4294967296 + after.at) q ≡ describe_on b buffer
-  describe_whole {q} {after} buffer h u =
+  pub describe_whole : {q : List ℕ} {k : ℕ} (buffer : List ℕ) → 65536 ≤ length buffer → TextPut buffer q k (sheet_tokens b)
+      → answered (4294967296 + k) q ≡ describe_on b buffer
+  describe_whole {q} {k} buffer h u =
       let r = accepted_is b bytes (sym e ∙ z) in
       let v = get (replicate 32 0) in
       let n = counts v r.0 r.2 r.3 (rw (sym r.1) at u) in

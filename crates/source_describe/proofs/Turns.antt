@@ -22,8 +22,8 @@ phase_later (suc n) h = refl
 
 -- ---- handlers
 
-pub record Handling (s : List ℕ) (first from : ℕ) (o p : List ℕ) (a b : Pen) (at left : ℕ) : Type 0 where
-  pub underway : Underway o p a b (handlers_tokens (length s) (drop first s) left (drop at s)) (handlers_tokens (length s) (drop first s) (length s) (drop from s))
+pub record Handling (s : List ℕ) (first from : ℕ) (a b : Pen) (at left : ℕ) : Type 0 where
+  pub underway : Underway a b (handlers_tokens (length s) (drop first s) left (drop at s)) (handlers_tokens (length s) (drop first s) (length s) (drop from s))
   pub inside : at ≤ length s
 
 handlers_turn : (n : ℕ) (bs : List ℕ) (k : ℕ) (b : List ℕ)
@@ -39,44 +39,44 @@ pub handlers_none : (n : ℕ) (bs : List ℕ) (left : ℕ) (b : List ℕ) → le
 unfolding handlers_tokens
 handlers_none n bs left b h = let e : left ≡ 0 = omega arith in rw e
 
-pub handling_on : {s : List ℕ} {first from : ℕ} {o p q : List ℕ} {a b c : Pen} {at left x y : ℕ} → Handling s first from o p a b at left → 0 < left
-    → x ≡ get_or (drop at s) 0 0 → x ≡ 5 → TokensPut p q b c (handler_tokens (length s) (drop first s) (drop at s)) → drop y s ≡ after_field (drop at s) → y ≤ length s
-    → Handling s first from o q a c y (left - 1)
-handling_on {s} {first} {from} {o} {p} {q} {a} {b} {c} {at} {left} {x} {y} u h e t w d l = record {
+pub handling_on : {s : List ℕ} {first from : ℕ} {a b c : Pen} {at left x y : ℕ} → Handling s first from a b at left → 0 < left
+    → x ≡ get_or (drop at s) 0 0 → x ≡ 5 → TokensPut b c (handler_tokens (length s) (drop first s) (drop at s)) → drop y s ≡ after_field (drop at s) → y ≤ length s
+    → Handling s first from a c y (left - 1)
+handling_on {s} {first} {from} {a} {b} {c} {at} {left} {x} {y} u h e t w d l = record {
   underway = under_turn u.underway w
       (handlers_open (length s) (drop first s) left (drop at s) h ∙ rw (eq-eqb (get_or (drop at s) 0 0) 5 (sym e ∙ t), ← d));
   inside = l;
 }
 
-pub handling_stops : {s : List ℕ} {first from : ℕ} {o p : List ℕ} {a b : Pen} {at left x : ℕ} → Handling s first from o p a b at left → 0 < left
-    → x ≡ get_or (drop at s) 0 0 → x ≢ 5 → TokensPut o p a b (handlers_tokens (length s) (drop first s) (length s) (drop from s))
-handling_stops {s} {first} {from} {o} {p} {a} {b} {at} {left} {x} u h e t =
+pub handling_stops : {s : List ℕ} {first from : ℕ} {a b : Pen} {at left x : ℕ} → Handling s first from a b at left → 0 < left
+    → x ≡ get_or (drop at s) 0 0 → x ≢ 5 → TokensPut a b (handlers_tokens (length s) (drop first s) (length s) (drop from s))
+handling_stops {s} {first} {from} {a} {b} {at} {left} {x} u h e t =
     under_end u.underway (handlers_open (length s) (drop first s) left (drop at s) h ∙ rw (ne_eqb (get_or (drop at s) 0 0) 5 (λ q. t (e ∙ q))))
 
 -- ---- bits
 
-pub record Bits (m : ℕ) (o p : List ℕ) (a b : Pen) (i rest : ℕ) : Type 0 where
-  pub underway : Underway o p a b (bit_tokens (8 - i) i rest) (bit_tokens 8 0 m)
+pub record Bits (m : ℕ) (a b : Pen) (i rest : ℕ) : Type 0 where
+  pub underway : Underway a b (bit_tokens (8 - i) i rest) (bit_tokens 8 0 m)
   pub few : i ≤ 8
 
 bits_turn : (k i m : ℕ) → bit_tokens (suc k) i m ≡ pick (eqb (m % 2) 1) (number 0 i ∷ []) [] ++ bit_tokens k (i + 1) (m / 2)
 unfolding bit_tokens
 bits_turn k i m = refl
 
-pub bits_on : {m : ℕ} {o p q : List ℕ} {a b c : Pen} {i rest : ℕ} → Bits m o p a b i rest → i < 8 → TokensPut p q b c (pick (eqb (rest % 2) 1) (number 0 i ∷ []) [])
-    → Bits m o q a c (i + 1) (rest / 2)
-bits_on {m} {o} {p} {q} {a} {b} {c} {i} {rest} u h w =
+pub bits_on : {m : ℕ} {a b c : Pen} {i rest : ℕ} → Bits m a b i rest → i < 8 → TokensPut b c (pick (eqb (rest % 2) 1) (number 0 i ∷ []) [])
+    → Bits m a c (i + 1) (rest / 2)
+bits_on {m} {a} {b} {c} {i} {rest} u h w =
     let e : 8 - i ≡ suc (8 - (i + 1)) = omega arith in
     record { underway = under_turn u.underway w (ap (λ (k : ℕ). bit_tokens k i rest) e ∙ bits_turn (8 - (i + 1)) i rest); few = omega arith }
 
-pub bits_end : {m : ℕ} {o p : List ℕ} {a b : Pen} {i rest : ℕ} → Bits m o p a b i rest → 8 ≤ i → TokensPut o p a b (bit_tokens 8 0 m)
+pub bits_end : {m : ℕ} {a b : Pen} {i rest : ℕ} → Bits m a b i rest → 8 ≤ i → TokensPut a b (bit_tokens 8 0 m)
 unfolding bit_tokens
-bits_end {m} {o} {p} {a} {b} {i} {rest} u h = let e : 8 - i ≡ 0 = omega arith in under_end u.underway (rw e)
+bits_end {m} {a} {b} {i} {rest} u h = let e : 8 - i ≡ 0 = omega arith in under_end u.underway (rw e)
 
 -- ---- behaviours
 
-pub record Describing (s : List ℕ) (first : ℕ) (o p : List ℕ) (a b : Pen) (at j left : ℕ) : Type 0 where
-  pub underway : Underway o p a b (entries_tokens (length s) (drop first s) left j (drop at s)) (entries_tokens (length s) (drop first s) (length s) 0 (drop first s))
+pub record Describing (s : List ℕ) (first : ℕ) (a b : Pen) (at j left : ℕ) : Type 0 where
+  pub underway : Underway a b (entries_tokens (length s) (drop first s) left j (drop at s)) (entries_tokens (length s) (drop first s) (length s) 0 (drop first s))
   pub inside : at ≤ length s
   pub few : j ≤ 318
 
@@ -93,32 +93,32 @@ pub entries_none : (n : ℕ) (bs : List ℕ) (left j : ℕ) (b : List ℕ) → l
 unfolding entries_tokens
 entries_none n bs left j b h = let e : left ≡ 0 = omega arith in rw e
 
-pub describing_on : {s : List ℕ} {first : ℕ} {o p q : List ℕ} {a b c : Pen} {at j left x y : ℕ} → Describing s first o p a b at j left → 0 < left → at ≢ length s
-    → j ≤ 63 → TokensPut p q b c (entry_tokens (length s) (drop first s) j (drop at s)) → x ≡ cells_in_front (drop at s) → x ≤ 255 → drop y s ≡ after_field (drop at s) → y ≤ length s
-    → Describing s first o q a c y (j + x) (left - 1)
-describing_on {s} {first} {o} {p} {q} {a} {b} {c} {at} {j} {left} {x} {y} u h n k w e r d l = record {
+pub describing_on : {s : List ℕ} {first : ℕ} {a b c : Pen} {at j left x y : ℕ} → Describing s first a b at j left → 0 < left → at ≢ length s
+    → j ≤ 63 → TokensPut b c (entry_tokens (length s) (drop first s) j (drop at s)) → x ≡ cells_in_front (drop at s) → x ≤ 255 → drop y s ≡ after_field (drop at s) → y ≤ length s
+    → Describing s first a c y (j + x) (left - 1)
+describing_on {s} {first} {a} {b} {c} {at} {j} {left} {x} {y} u h n k w e r d l = record {
   underway = under_turn u.underway w
       (entries_open (length s) (drop first s) left j (drop at s) h ∙ rw (ne_eqb (length (drop at s)) 0 (some_left s at u.inside n), le-ltb 63 j k, ← e, ← d));
   inside = l;
   few = omega arith;
 }
 
-pub describing_stops : {s : List ℕ} {first : ℕ} {o p : List ℕ} {a b : Pen} {at j left : ℕ} → Describing s first o p a b at j left → 0 < left → at ≡ length s
-    → TokensPut o p a b (entries_tokens (length s) (drop first s) (length s) 0 (drop first s))
-describing_stops {s} {first} {o} {p} {a} {b} {at} {j} {left} u h n =
+pub describing_stops : {s : List ℕ} {first : ℕ} {a b : Pen} {at j left : ℕ} → Describing s first a b at j left → 0 < left → at ≡ length s
+    → TokensPut a b (entries_tokens (length s) (drop first s) (length s) 0 (drop first s))
+describing_stops {s} {first} {a} {b} {at} {j} {left} u h n =
     let z : length (drop at s) ≡ 0 = simp length-drop (omega arith) in
     under_end u.underway (entries_open (length s) (drop first s) left j (drop at s) h ∙ rw (eq-eqb (length (drop at s)) 0 z))
 
-pub describing_full : {s : List ℕ} {first : ℕ} {o p : List ℕ} {a b : Pen} {at j left : ℕ} → Describing s first o p a b at j left → 0 < left → at ≢ length s → 63 < j
-    → TokensPut o p a b (entries_tokens (length s) (drop first s) (length s) 0 (drop first s))
-describing_full {s} {first} {o} {p} {a} {b} {at} {j} {left} u h n k =
+pub describing_full : {s : List ℕ} {first : ℕ} {a b : Pen} {at j left : ℕ} → Describing s first a b at j left → 0 < left → at ≢ length s → 63 < j
+    → TokensPut a b (entries_tokens (length s) (drop first s) (length s) 0 (drop first s))
+describing_full {s} {first} {a} {b} {at} {j} {left} u h n k =
     under_end u.underway
     (entries_open (length s) (drop first s) left j (drop at s) h ∙ rw (ne_eqb (length (drop at s)) 0 (some_left s at u.inside n), lt-ltb 63 j k))
 
 -- ---- events
 
-pub record Declaring (s : List ℕ) (o p : List ℕ) (a b : Pen) (at i : ℕ) : Type 0 where
-  pub underway : Underway o p a b (signals_tokens (32 - i) i (drop at s)) (signals_tokens 32 0 s)
+pub record Declaring (s : List ℕ) (a b : Pen) (at i : ℕ) : Type 0 where
+  pub underway : Underway a b (signals_tokens (32 - i) i (drop at s)) (signals_tokens 32 0 s)
   pub inside : at ≤ length s
   pub few : i ≤ 32
 
@@ -130,9 +130,9 @@ pub signals_none : (k i : ℕ) (b : List ℕ) → k ≡ 0 → signals_tokens k i
 unfolding signals_tokens
 signals_none k i b e = rw e
 
-pub declaring_on : {s : List ℕ} {o p q : List ℕ} {a b c : Pen} {at i x y : ℕ} → Declaring s o p a b at i → i < 32 → x ≡ get_or (drop at s) 0 0 → x ≡ 1
-    → TokensPut p q b c (signal_tokens i (drop at s)) → drop y s ≡ after_field (drop at s) → y ≤ length s → Declaring s o q a c y (i + 1)
-declaring_on {s} {o} {p} {q} {a} {b} {c} {at} {i} {x} {y} u h e t w d l =
+pub declaring_on : {s : List ℕ} {a b c : Pen} {at i x y : ℕ} → Declaring s a b at i → i < 32 → x ≡ get_or (drop at s) 0 0 → x ≡ 1
+    → TokensPut b c (signal_tokens i (drop at s)) → drop y s ≡ after_field (drop at s) → y ≤ length s → Declaring s a c y (i + 1)
+declaring_on {s} {a} {b} {c} {at} {i} {x} {y} u h e t w d l =
     let z : 32 - i ≡ suc (32 - (i + 1)) = omega arith in
     record {
       underway = under_turn u.underway w
@@ -141,40 +141,40 @@ declaring_on {s} {o} {p} {q} {a} {b} {c} {at} {i} {x} {y} u h e t w d l =
       few = omega arith;
     }
 
-pub declaring_stops : {s : List ℕ} {o p : List ℕ} {a b : Pen} {at i x : ℕ} → Declaring s o p a b at i → i < 32 → x ≡ get_or (drop at s) 0 0 → x ≢ 1
-    → TokensPut o p a b (signals_tokens 32 0 s)
-declaring_stops {s} {o} {p} {a} {b} {at} {i} {x} u h e t =
+pub declaring_stops : {s : List ℕ} {a b : Pen} {at i x : ℕ} → Declaring s a b at i → i < 32 → x ≡ get_or (drop at s) 0 0 → x ≢ 1
+    → TokensPut a b (signals_tokens 32 0 s)
+declaring_stops {s} {a} {b} {at} {i} {x} u h e t =
     let z : 32 - i ≡ suc (32 - (i + 1)) = omega arith in
     under_end u.underway
     (ap (λ (k : ℕ). signals_tokens k i (drop at s)) z ∙ (signals_turn (32 - (i + 1)) i (drop at s) ∙ rw (ne_eqb (get_or (drop at s) 0 0) 1 (λ q. t (e ∙ q)))))
 
 -- ---- parameters
 
-pub record Parametric (n : ℕ) (o p : List ℕ) (a b : Pen) (i : ℕ) : Type 0 where
-  pub underway : Underway o p a b (parameter_tokens (parameters_from (n - i) i) []) (parameter_tokens (parameters_from n 0) [])
+pub record Parametric (n : ℕ) (a b : Pen) (i : ℕ) : Type 0 where
+  pub underway : Underway a b (parameter_tokens (parameters_from (n - i) i) []) (parameter_tokens (parameters_from n 0) [])
   pub few : i ≤ n
 
-pub parametric_start : (n : ℕ) (o : List ℕ) (pen : Pen) → pen.at ≤ 65548 → Parametric n o o pen pen 0
-parametric_start n o pen h =
+pub parametric_start : (n : ℕ) (pen : Pen) → pen.at ≤ 65548 → Parametric n pen pen 0
+parametric_start n pen h =
     let e : n - 0 ≡ n = omega arith in
-    record { underway = rw e (under_start o pen (parameter_tokens (parameters_from n 0) []) h); few = omega arith }
+    record { underway = rw e (under_start pen (parameter_tokens (parameters_from n 0) []) h); few = omega arith }
 
 parameters_turn : (k i : ℕ) → parameter_tokens (parameters_from (suc k) i) [] ≡ mark param_word (name 0 (parameter_name i) ∷ parameter_tokens (parameters_from k (suc i)) [])
 unfolding parameter_tokens parameters_from
 parameters_turn k i = refl
 
-pub parametric_on : {n : ℕ} {o p q : List ℕ} {a b c : Pen} {i : ℕ} → Parametric n o p a b i → i < n → TokensPut p q b c (mark param_word (name 0 (parameter_name i) ∷ []))
-    → Parametric n o q a c (i + 1)
-parametric_on {n} {o} {p} {q} {a} {b} {c} {i} u h w =
+pub parametric_on : {n : ℕ} {a b c : Pen} {i : ℕ} → Parametric n a b i → i < n → TokensPut b c (mark param_word (name 0 (parameter_name i) ∷ []))
+    → Parametric n a c (i + 1)
+parametric_on {n} {a} {b} {c} {i} u h w =
     let z : n - i ≡ suc (n - (i + 1)) = omega arith in
     record {
       underway = under_turn u.underway w (ap (λ (k : ℕ). parameter_tokens (parameters_from k i) []) z ∙ rw (add-one i) (parameters_turn (n - suc i) i));
       few = omega arith;
     }
 
-pub parametric_end : {n : ℕ} {o p : List ℕ} {a b : Pen} {i : ℕ} → Parametric n o p a b i → n ≤ i → TokensPut o p a b (parameter_tokens (parameters_from n 0) [])
+pub parametric_end : {n : ℕ} {a b : Pen} {i : ℕ} → Parametric n a b i → n ≤ i → TokensPut a b (parameter_tokens (parameters_from n 0) [])
 unfolding parameter_tokens parameters_from
-parametric_end {n} {o} {p} {a} {b} {i} u h = let e : n - i ≡ 0 = omega arith in under_end u.underway (rw e)
+parametric_end {n} {a} {b} {i} u h = let e : n - i ≡ 0 = omega arith in under_end u.underway (rw e)
 
 -- ---- parts in a row
 

@@ -1,21 +1,22 @@
 -- What the reader makes of what was found due, and of a fault: each by the first of the tokens.
-use Rattle.lib_base.proofs.Prelude.{ℕ, ◌≡◌, refl, ap, true, false, Bool, List, [], ◌∷◌, ltb, ne_eqb, le-ltb, eq-eqb}
+use Rattle.lib_base.proofs.Prelude.{ℕ, ◌≡◌, refl, ap, true, false, Bool, List, ◌∷◌, ltb, ne_eqb, le-ltb, eq-eqb, []}
 use Rattle.lib_base.proofs.Prelude.{arith}
 use Rattle.lib_base.specs.Basics.{pick}
 use Rattle.source_language.specs.Tokens.{SheetToken, number, name, sign}
 use Rattle.source_language.specs.Faults.{Kind, outside, too_large}
 use Rattle.source_language.specs.Reader.{Phrased, bad, got, place_at, sign_at, past_sign, name_due, number_due}
 use Rattle.source_coding.specs.Places.{tokens_from}
-use Rattle.source_due.specs.Due.{FaultTold, SignTold, NoName, NameTold, NumberTold}
-use Rattle.source_due.specs.declared.Due.TheVariants.{Found, Fault}
+use Rattle.source_due.specs.Due.{found, FaultTold, SignTold, NoName, NameTold, NumberTold}
+use Rattle.std.specs.Prelude.{Err}
+use Rattle.source_coding.specs.declared.faults.Fault.{Fault}
 
 module _ {A : Type 0} (text : List ℕ) (at : ℕ) where
-  pub sign_passes : (c : ℕ) (f : List SheetToken → Phrased A) (p v next : ℕ) → SignTold text at c (Found p v next)
+  pub sign_passes : (c : ℕ) (f : List SheetToken → Phrased A) (p v next : ℕ) → SignTold text at c (found p v next)
       → past_sign c f (tokens_from text at) ≡ f (tokens_from text next)
   unfolding past_sign
   sign_passes c f p v next e = rw (e, eq-eqb c c refl)
 
-  pub sign_fails : (c : ℕ) (f : List SheetToken → Phrased A) (w : ℕ) → SignTold text at c (Fault w)
+  pub sign_fails : (c : ℕ) (f : List SheetToken → Phrased A) (w : Fault) → SignTold text at c (Err w)
       → past_sign c f (tokens_from text at) ≡ bad outside (place_at (tokens_from text at))
   unfolding past_sign
   sign_fails c f w h = rw (ne_eqb (sign_at (tokens_from text at)) c h.0)
@@ -26,11 +27,11 @@ module _ {A : Type 0} (text : List ℕ) (at : ℕ) where
   no_name f (name p s ∷ ts) h = absurd h
   no_name f (sign p c ∷ ts) h = refl
 
-  pub name_fails : (f : ℕ → List ℕ → List SheetToken → Phrased A) (w : ℕ) → NameTold text at (Fault w)
+  pub name_fails : (f : ℕ → List ℕ → List SheetToken → Phrased A) (w : Fault) → NameTold text at (Err w)
       → name_due f (tokens_from text at) ≡ bad outside (place_at (tokens_from text at))
   name_fails f w h = no_name f (tokens_from text at) h.0
 
-  pub number_passes : (top : ℕ) (f : ℕ → ℕ → List SheetToken → Phrased A) (p v next : ℕ) → NumberTold text at top (Found p v next)
+  pub number_passes : (top : ℕ) (f : ℕ → ℕ → List SheetToken → Phrased A) (p v next : ℕ) → NumberTold text at top (found p v next)
       → number_due top f (tokens_from text at) ≡ f p v (tokens_from text next)
   number_passes top f p v next h = rw (h.0, le-ltb top v h.1)
 
@@ -54,7 +55,7 @@ no_number top f (number q n ∷ ts) k p e = too_large_law (ltb top n) q n ts (f 
 no_number top f (name q s ∷ ts) k p e = bad_again outside k q p e
 no_number top f (sign q c ∷ ts) k p e = bad_again outside k q p e
 
-pub number_fails : {A : Type 0} (text : List ℕ) (at top : ℕ) (f : ℕ → ℕ → List SheetToken → Phrased A) (w : ℕ) → NumberTold text at top (Fault w)
+pub number_fails : {A : Type 0} (text : List ℕ) (at top : ℕ) (f : ℕ → ℕ → List SheetToken → Phrased A) (w : Fault) → NumberTold text at top (Err w)
     → FaultTold (number_due top f (tokens_from text at)) w
 number_fails text at top f w h =
-    record { kind = h.kind; place = h.place; turned = no_number top f (tokens_from text at) h.kind h.place h.turned; word = h.word }
+    record { kind = h.kind; place = h.place; turned = no_number top f (tokens_from text at) h.kind h.place h.turned; told = h.told }

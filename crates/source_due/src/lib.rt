@@ -2,34 +2,28 @@
 
 #![tactic(auto)]
 
-ghost use Rattle.std.specs.Prelude.{◌≡◌, ◌≤◌, ◌<◌, ◌+◌, ◌*◌, ◌-◌, ◌%◌, length};
+ghost use Rattle.std.specs.Prelude.{◌≡◌, ◌≤◌, ◌<◌, ◌-◌, ◌%◌, length};
 ghost use Rattle.source_language.specs.Tokens.{end_sign};
 ghost use Rattle.source_tokens.specs.Token.{TokenAt, TokenWithin};
 ghost use Rattle.source_due.specs.Due.{SignTold, NameTold, NumberTold, ValueTold, DueWithin};
 ghost use Rattle.lib_base.specs.Words.{word_values};
-ghost use Rattle.source_coding.specs.Bounds.{largest_negated, last_fault, text_bytes};
+ghost use Rattle.source_coding.specs.Bounds.{largest_negated, text_bytes};
 
 use lib_signature::functions;
-use source_coding::{faults, limits};
+use source_coding::faults::{Fault, Kind};
+use source_coding::limits;
 use source_tokens::{Token, place_of, token_at};
 use text_formula::tokens;
 
-// What is due: its place, its number (of a sign, a number or a constant; 0 for a name) and the place behind it; or a
-// fault's word.
-#[derive(Drop)]
-pub enum Due {
-    Found(usize, u64, usize),
-    Fault(u64),
+// What is due: its place, its number (of a sign, a number or a constant; 0 for a name) and the place behind it.
+#[derive(Clone, Copy, PartialEq, Eq, Debug, Drop)]
+pub struct Found {
+    pub place: usize,
+    pub number: u64,
+    pub next: usize,
 }
 
-// A fault's word: its kind and its place.
-pub fn fault_word(kind: u64, place: usize) -> u64
-    requires kind_le_last_fault { kind ≤ last_fault }
-    requires place_le_text_bytes { place ≤ text_bytes }
-    ensures { result ≡ kind * word_values + place }
-{
-    kind * faults::KIND + (place as u64)
-}
+pub type Due = Result<Found, Fault>;
 
 // This sign, where the token t stands.
 fn sign_of(text: &[u8], at: usize, t: Token, sign: u8) -> Due
@@ -40,13 +34,23 @@ fn sign_of(text: &[u8], at: usize, t: Token, sign: u8) -> Due
     ensures sign_told { SignTold text.now at sign result }
     ensures due_within { DueWithin (length text.now) at result }
 {
-    let Token::Sign(p, c, next) = t else {
-        return Due::Fault(fault_word(faults::OUTSIDE, place_of(t)));
+    let Token::Sign(place, c, next) = t else {
+        return Err(Fault {
+            kind: Kind::Outside,
+            place: place_of(t),
+        });
     };
     if c != sign {
-        return Due::Fault(fault_word(faults::OUTSIDE, p));
+        return Err(Fault {
+            kind: Kind::Outside,
+            place,
+        });
     }
-    Due::Found(p, c as u64, next)
+    Ok(Found {
+        place,
+        number: c as u64,
+        next,
+    })
 }
 
 // This sign.
@@ -69,10 +73,17 @@ pub fn name_due(text: &[u8], at: usize) -> Due
     ensures due_within { DueWithin (length text.now) at result }
 {
     let t = token_at(text, at);
-    let Token::Name(p, next) = t else {
-        return Due::Fault(fault_word(faults::OUTSIDE, place_of(t)));
+    let Token::Name(place, next) = t else {
+        return Err(Fault {
+            kind: Kind::Outside,
+            place: place_of(t),
+        });
     };
-    Due::Found(p, 0, next)
+    Ok(Found {
+        place,
+        number: 0,
+        next,
+    })
 }
 
 // A number of at most `top`, where the token t stands.
@@ -84,13 +95,23 @@ fn number_of(text: &[u8], at: usize, t: Token, top: u64) -> Due
     ensures number_told { NumberTold text.now at top result }
     ensures due_within { DueWithin (length text.now) at result }
 {
-    let Token::Number(p, v, next) = t else {
-        return Due::Fault(fault_word(faults::OUTSIDE, place_of(t)));
+    let Token::Number(place, number, next) = t else {
+        return Err(Fault {
+            kind: Kind::Outside,
+            place: place_of(t),
+        });
     };
-    if top < v {
-        return Due::Fault(fault_word(faults::LARGE_NUMBER, p));
+    if top < number {
+        return Err(Fault {
+            kind: Kind::LargeNumber,
+            place,
+        });
     }
-    Due::Found(p, v, next)
+    Ok(Found {
+        place,
+        number,
+        next,
+    })
 }
 
 // A number of at most `top`.
@@ -120,15 +141,15 @@ pub fn value_of(text: &[u8], at: usize, t: Token) -> Due
     ensures value_told { ValueTold text.now at result }
     ensures due_within { DueWithin (length text.now) at result }
 {
-    let minus = sign_of(text, at, t, functions::SUBTRACT);
-    let Due::Found(p, c, next) = minus else {
+    let Ok(minus) = sign_of(text, at, t, functions::SUBTRACT) else {
         return number_of(text, at, t, limits::LARGEST);
     };
-    let number = number_due(text, next, limits::LARGEST_NEGATED);
-    let Due::Found(q, v, end) = number else {
-        return number;
-    };
-    Due::Found(p, negated(v), end)
+    let value = number_due(text, minus.next, limits::LARGEST_NEGATED)?;
+    Ok(Found {
+        place: minus.place,
+        number: negated(value.number),
+        next: value.next,
+    })
 }
 
 // A constant.

@@ -1,7 +1,9 @@
 -- Fields laid one after another, and a head before them: each is its bytes or the first fault of its names (`Laid`),
 -- and a formula's parts make up what the definition says of the whole (`encoded_of`).
+use Rattle.std.specs.Prelude.{Option, None, Some}
+use Rattle.source_coding.specs.declared.faults.Fault.{Fault}
 use Rattle.lib_base.proofs.Prelude.{ℕ, ◌≤◌, ◌+◌, ◌≡◌, refl, ◌∙◌, sym, ap, ◌&&◌, List, ◌∷◌, ◌++◌, append_assoc, length}
-use Rattle.lib_base.proofs.Prelude.{take, length-append, eqb, ltb, ne_eqb, arith}
+use Rattle.lib_base.proofs.Prelude.{take, length-append, eqb, ltb, arith}
 use Rattle.lib_base.proofs.Tools.{by_test}
 use Rattle.lib_signature.specs.Numbers.{not_fn, if_fn}
 use Rattle.spec_language.specs.Sheet.{Term, apply1, apply2, apply3}
@@ -9,30 +11,11 @@ use Rattle.spec_language.specs.Grammar.{field, encode_expr}
 use Rattle.sheet_write.specs.Writes.{fitted, as_application}
 use Rattle.sheet_write.proofs.Laws.{fitted_taken, applied_taken}
 use Rattle.source_language.specs.Text.{Phrase, constant, named, cell, negation, operation, choice}
-use Rattle.source_language.specs.Faults.{Kind, outside, too_large, off_scale, too_many_fault, declared_twice_fault, second_handler_fault, too_deep, unknown_name, no_such_cell_fault, long_sheet_fault, short_buffer_fault, long_text_fault, OrFault, fault, fine, and_then}
+use Rattle.source_language.specs.Faults.{Kind, OrFault, fault, fine, and_then}
 use Rattle.source_language.specs.Meaning.{NameMeaning, nothing, a_parameter, a_behaviour, a_row, name_term, cell_term, term_of}
-use Rattle.source_coding.specs.Faults.{fault_number}
-use Rattle.source_coding.specs.FaultWords.{fault_word, fault_in, first_fault}
+use Rattle.source_coding.specs.FaultWords.{fault_of, fault_in}
+use Rattle.std.specs.Option.{option_or}
 use Rattle.source_coding.specs.Sizes.{phrase_size}
-
--- ---- faults
-
-kind_large : (k : Kind) → 31 ≤ fault_number k
-kind_large outside = omega arith
-kind_large too_large = omega arith
-kind_large off_scale = omega arith
-kind_large too_many_fault = omega arith
-kind_large declared_twice_fault = omega arith
-kind_large second_handler_fault = omega arith
-kind_large too_deep = omega arith
-kind_large unknown_name = omega arith
-kind_large no_such_cell_fault = omega arith
-kind_large long_sheet_fault = omega arith
-kind_large short_buffer_fault = omega arith
-kind_large long_text_fault = omega arith
-
-first_of : (k : Kind) (p w : ℕ) → first_fault (fault_word k p) w ≡ fault_word k p
-first_of k p w = let h = kind_large k in rw (ne_eqb (fault_word k p) 0 (λ e. omega arith))
 
 -- ---- bytes or a fault
 
@@ -51,8 +34,8 @@ both x y = and_then x (λ u. and_then y (λ v. fine (u ++ v)))
 abbrev pub headed : ℕ → OrBytes → OrBytes
 headed f x = and_then x (λ v. fine (field 18 (f ∷ v)))
 
-fault_both : (x y : OrBytes) → first_fault (fault_in x) (fault_in y) ≡ fault_in (both x y)
-fault_both (fault k p) y = first_of k p (fault_in y)
+fault_both : (x y : OrBytes) → option_or (fault_in x) (fault_in y) ≡ fault_in (both x y)
+fault_both (fault k p) y = refl
 fault_both (fine u) (fault k p) = refl
 fault_both (fine u) (fine v) = refl
 
@@ -94,15 +77,15 @@ sized_headed f x a v e = let i = in_head f x v e in rw i.whole (omega (arith, a 
 
 -- ---- what is laid down from n to the end where o stood: so many bytes, and w is their first fault
 
-pub record Laid (n : ℕ) (o p : List ℕ) (end w s : ℕ) (x : OrBytes) : Type 0 where
+pub record Laid (n : ℕ) (o p : List ℕ) (end : ℕ) (w : Option Fault) (s : ℕ) (x : OrBytes) : Type 0 where
   pub size : end ≡ n + s
   pub told : w ≡ fault_in x
   pub long : Sized x s
   pub bytes : (v : List ℕ) → x ≡ fine v → end ≤ length o → take end p ≡ take n o ++ v
 
-pub laid_then : {n : ℕ} {o p q : List ℕ} {end to w v s t : ℕ} (x y : OrBytes) → length p ≡ length o → Laid n o p end w s x → Laid end p q to v t y
-    → Laid n o q to (first_fault w v) (s + t) (both x y)
-laid_then {n} {o} {p} {q} {end} {to} {w} {v} {s} {t} x y l a b =
+pub laid_then : {n : ℕ} {o p q : List ℕ} {end to s t : ℕ} {w v : Option Fault} (x y : OrBytes) → length p ≡ length o → Laid n o p end w s x → Laid end p q to v t y
+    → Laid n o q to (option_or w v) (s + t) (both x y)
+laid_then {n} {o} {p} {q} {end} {to} {s} {t} {w} {v} x y l a b =
     record {
       size = omega (arith, a.size, b.size);
       told = rw (a.told, b.told) (fault_both x y);
@@ -115,9 +98,9 @@ laid_then {n} {o} {p} {q} {end} {to} {w} {v} {s} {t} x y l a b =
           ∙ ap (λ (l : List ℕ). take n o ++ l) (sym i.whole);
     }
 
-pub laid_head : (f : ℕ) {n : ℕ} {o p : List ℕ} {end w s : ℕ} (x : OrBytes) → length p ≡ length o → Laid n o p end w s x
+pub laid_head : (f : ℕ) {n : ℕ} {o p : List ℕ} {end s : ℕ} {w : Option Fault} (x : OrBytes) → length p ≡ length o → Laid n o p end w s x
     → Laid n o (as_application f n end p) (end + 4) w (4 + s) (headed f x)
-laid_head f {n} {o} {p} {end} {w} {s} x l a =
+laid_head f {n} {o} {p} {end} {s} {w} x l a =
     record {
       size = omega (arith, a.size);
       told = a.told ∙ fault_headed f x;
@@ -130,7 +113,7 @@ laid_head f {n} {o} {p} {end} {w} {s} x l a =
     }
 
 -- a field of no parts
-pub laid_leaf : (n : ℕ) (v o : List ℕ) → Laid n o (fitted o n v) (n + length v) 0 (length v) (fine v)
+pub laid_leaf : (n : ℕ) (v o : List ℕ) → Laid n o (fitted o n v) (n + length v) None (length v) (fine v)
 laid_leaf n v o =
     record {
       size = refl;
@@ -139,7 +122,7 @@ laid_leaf n v o =
       bytes = λ u e h. rw (← fine_same e) (fitted_taken o n v h);
     }
 
-pub laid_fault : (n s : ℕ) (o : List ℕ) (k : Kind) (p : ℕ) → Laid n o o (n + s) (fault_word k p) s (fault k p)
+pub laid_fault : (n s : ℕ) (o : List ℕ) (k : Kind) (p : ℕ) → Laid n o o (n + s) (Some (fault_of k p)) s (fault k p)
 laid_fault n s o k p =
     record { size = refl; told = refl; long = λ v e. absurd (fault≢fine e); bytes = λ v e h. absurd (fault≢fine e) }
 

@@ -1,5 +1,8 @@
 -- Operands without brackets around them: `!`, `if` and the rest, each as `read_primary` has it.
-use Rattle.lib_base.proofs.Prelude.{ℕ, ◌≤◌, ◌<◌, ◌+◌, ◌-◌, suc, ◌*◌, ◌≡◌, refl, ◌∙◌, ap, false, List, [], ◌∷◌, length}
+use Rattle.std.specs.Prelude.{Ok, Err, None}
+use Rattle.source_coding.specs.declared.faults.Fault.{Fault}
+use Rattle.source_coding.specs.FaultWords.{fault_of}
+use Rattle.lib_base.proofs.Prelude.{ℕ, ◌≤◌, ◌<◌, ◌-◌, suc, ◌*◌, ◌≡◌, refl, ◌∙◌, ap, false, List, ◌∷◌, length, []}
 use Rattle.lib_base.proofs.Prelude.{eqb, ne_eqb, le-ltb, lt-ltb, arith}
 use Rattle.lib_base.proofs.Tools.{by_test}
 use Rattle.lib_signature.specs.Numbers.{not_fn, if_fn, subtract_fn}
@@ -9,10 +12,8 @@ use Rattle.source_language.specs.Faults.{outside, too_deep}
 use Rattle.source_language.specs.Meaning.{NameMeaning}
 use Rattle.source_language.specs.Reader.{Phrased, bad, got, then_phrase, sign_at, value_of, read_constant, read_negation, read_choice, signed_of, read_primary, phrase_within}
 use Rattle.source_coding.specs.Places.{tokens_from}
-use Rattle.source_field.specs.Formula.{FormulaRead, FormulaWithin, FewerLeft, PartRead}
+use Rattle.source_field.specs.Formula.{Read, FormulaRead, FormulaWithin, FewerLeft, PartRead}
 use Rattle.source_field.specs.Fields.{applied_by, headed_in, Headable}
-use Rattle.source_field.specs.declared.Read.{Read}
-use Rattle.source_field.specs.declared.Read.TheVariants.{Done, Fault}
 use Rattle.source_field.proofs.Parts.{negation_written}
 use Rattle.source_operand.specs.Operand.{plain_of}
 use Rattle.source_onward.specs.Onward.{SignBefore}
@@ -54,8 +55,8 @@ plain_as next room (sign p c ∷ ts) h g =
 
 -- there is room for the head before the argument of `!`, whatever it is
 pub not_headable : (long room at next n : ℕ) (q : Read) → FormulaWithin long (room - 1) next n q → (at < next) × (next ≤ long) → n ≤ at * 16 → room ≤ 16 → long ≤ 65536 → Headable n 0 q
-not_headable long room at next n (Fault w) b z h k l = tt
-not_headable long room at next n (Done to depth end w) b z h k l = omega arith
+not_headable long room at next n (Err w) b z h k l = tt
+not_headable long room at next n (Ok f) b z h k l = omega arith
 
 module _ (text : List ℕ) (find : List ℕ → NameMeaning) (c room at n p s next : ℕ) (o : List ℕ) (st : SignBefore text at p s next) where
   pub plain_read : (o₂ : List ℕ) (r : Read) → (s ≡ not_fn → ⊥) → (s ≡ if_fn → ⊥) → 0 < room → PartRead text find c 1 at n o o₂ r (plain_of (tokens_from text at))
@@ -65,18 +66,18 @@ module _ (text : List ℕ) (find : List ℕ → NameMeaning) (c room at n p s ne
       record { reads = rw (← e) x.reads; within = roomier r x.within; fewer = x.fewer; kept = x.kept }
     where
       roomier : (q : Read) → FormulaWithin (length text) 1 at n q → FormulaWithin (length text) room at n q
-      roomier (Fault w) b = tt
-      roomier (Done to depth end w) b = omega arith
+      roomier (Err w) b = tt
+      roomier (Ok f) b = omega arith
 
-  deep_read : (v : ℕ) → read_primary (phrase_within (room - 1)) room (tokens_from text at) ≡ bad too_deep p → v ≡ 37 * 4294967296 + p
-      → PartRead text find c room at n o o (Fault v) (read_primary (phrase_within (room - 1)) room (tokens_from text at))
+  deep_read : (v : Fault) → read_primary (phrase_within (room - 1)) room (tokens_from text at) ≡ bad too_deep p → v ≡ fault_of too_deep p
+      → PartRead text find c room at n o o (Err v) (read_primary (phrase_within (room - 1)) room (tokens_from text at))
   deep_read v e w = record { reads = rw e w; within = tt; fewer = tt; kept = refl }
 
-  pub not_too_deep : (v : ℕ) → s ≡ not_fn → room < 2 → v ≡ 37 * 4294967296 + p → PartRead text find c room at n o o (Fault v) (read_primary (phrase_within (room - 1)) room (tokens_from text at))
+  pub not_too_deep : (v : Fault) → s ≡ not_fn → room < 2 → v ≡ fault_of too_deep p → PartRead text find c room at n o o (Err v) (read_primary (phrase_within (room - 1)) room (tokens_from text at))
   not_too_deep v e h w =
       deep_read v (not_deep (phrase_within (room - 1)) room p (tokens_from text at) (tokens_from text next) (st.onward (omega arith) (omega arith) ∙ rw e) (omega arith)) w
 
-  pub if_too_deep : (v : ℕ) → s ≡ if_fn → room < 2 → v ≡ 37 * 4294967296 + p → PartRead text find c room at n o o (Fault v) (read_primary (phrase_within (room - 1)) room (tokens_from text at))
+  pub if_too_deep : (v : Fault) → s ≡ if_fn → room < 2 → v ≡ fault_of too_deep p → PartRead text find c room at n o o (Err v) (read_primary (phrase_within (room - 1)) room (tokens_from text at))
   if_too_deep v e h w =
       deep_read v (if_deep (phrase_within (room - 1)) room p (tokens_from text at) (tokens_from text next) (st.onward (omega arith) (omega arith) ∙ rw e) (omega arith)) w
 
@@ -89,12 +90,12 @@ module _ (text : List ℕ) (find : List ℕ → NameMeaning) (c room at n p s ne
     fewer_behind = ap length (st.onward few.0 few.1)
 
     fewer_at : (q : Read) → FewerLeft text next q → FewerLeft text at q
-    fewer_at (Fault w) h = tt
-    fewer_at (Done to depth end w) h = let z = fewer_behind in omega arith
+    fewer_at (Err w) h = tt
+    fewer_at (Ok f) h = let z = fewer_behind in omega arith
 
     within_at : (q : Read) → FormulaWithin (length text) room next n q → FormulaWithin (length text) room at n q
-    within_at (Fault w) h = tt
-    within_at (Done to depth end w) h = let z = behind_sign in omega arith
+    within_at (Err w) h = tt
+    within_at (Ok f) h = let z = behind_sign in omega arith
 
     pub if_read : (o₂ : List ℕ) (r : Read) → s ≡ if_fn → 1 < room → PartRead text find c room next n o o₂ r (read_choice (phrase_within (room - 1) 6) (tokens_from text next))
         → PartRead text find c room at n o o₂ r (read_primary (phrase_within (room - 1)) room (tokens_from text at))
@@ -103,21 +104,21 @@ module _ (text : List ℕ) (find : List ℕ → NameMeaning) (c room at n p s ne
         record { reads = rw z x.reads; within = within_at r x.within; fewer = fewer_at r x.fewer; kept = x.kept }
 
     module _ (o₁ : List ℕ) (q : Read) (x : PartRead text find c (room - 1) next n o o₁ q (phrase_within (room - 1) 0 (tokens_from text next))) where
-      negated : (y : Read) (g : Phrased Phrase) → FormulaRead text find c n o o₁ y g → FormulaRead text find c n o (headed_in not_fn n y o₁) (applied_by 0 0 y) (then_phrase g (λ a vs. got (negation a) vs))
-      negated (Fault w) (bad k z) a = a
-      negated (Fault w) (got e us) a = absurd a
-      negated (Done to depth end w) (bad k z) a = absurd a
-      negated (Done to depth end w) (got e us) a = negation_written x.kept a
+      negated : (y : Read) (g : Phrased Phrase) → FormulaRead text find c n o o₁ y g → FormulaRead text find c n o (headed_in not_fn n y o₁) (applied_by 0 None y) (then_phrase g (λ a vs. got (negation a) vs))
+      negated (Err w) (bad k z) a = a
+      negated (Err w) (got e us) a = absurd a
+      negated (Ok f) (bad k z) a = absurd a
+      negated (Ok f) (got e us) a = negation_written x.kept a
 
-      within_not : (y : Read) → 1 < room → FormulaWithin (length text) (room - 1) next n y → FormulaWithin (length text) room at n (applied_by 0 0 y)
-      within_not (Fault w) h b = tt
-      within_not (Done to depth end w) h b = let z = behind_sign in omega arith
+      within_not : (y : Read) → 1 < room → FormulaWithin (length text) (room - 1) next n y → FormulaWithin (length text) room at n (applied_by 0 None y)
+      within_not (Err w) h b = tt
+      within_not (Ok f) h b = let z = behind_sign in omega arith
 
-      fewer_not : (y : Read) → FewerLeft text next y → FewerLeft text at (applied_by 0 0 y)
-      fewer_not (Fault w) h = tt
-      fewer_not (Done to depth end w) h = let z = fewer_behind in omega arith
+      fewer_not : (y : Read) → FewerLeft text next y → FewerLeft text at (applied_by 0 None y)
+      fewer_not (Err w) h = tt
+      fewer_not (Ok f) h = let z = fewer_behind in omega arith
 
-      pub not_read : (o₂ : List ℕ) (r : Read) → s ≡ not_fn → 1 < room → r ≡ applied_by 0 0 q → o₂ ≡ headed_in not_fn n q o₁ → length o₂ ≡ length o₁
+      pub not_read : (o₂ : List ℕ) (r : Read) → s ≡ not_fn → 1 < room → r ≡ applied_by 0 None q → o₂ ≡ headed_in not_fn n q o₁ → length o₂ ≡ length o₁
           → PartRead text find c room at n o o₂ r (read_primary (phrase_within (room - 1)) room (tokens_from text at))
       not_read o₂ r e h f d k =
           let z = not_as (phrase_within (room - 1)) room p (tokens_from text at) (tokens_from text next) (st.onward few.0 few.1 ∙ rw e) h in

@@ -20,10 +20,10 @@ ghost use Rattle.source_names.specs.Units.{meaning_limit};
 ghost use Rattle.spec_language.specs.Limits.{nesting_limit};
 
 use lib_signature::{functions, levels};
-use source_coding::faults;
+use source_coding::faults::{Fault, Kind};
 use source_coding::signs::{COMMA, OPENING};
-use source_due::{Due, fault_word, sign_due};
-use source_field::{Cursor, Read, close};
+use source_due::sign_due;
+use source_field::{Cursor, Formula, Read, close, under};
 use source_onward::{Onward, onward_at};
 use source_operand::plain_at;
 use spec_language::limits;
@@ -47,8 +47,10 @@ pub fn formula_at(
     ensures fewer_left { FewerLeft text.now cursor.at result }
     ensures out_len_unchanged { length out.new ≡ length out.old }
 {
-    let mut whole = cursor;
-    whole.room = limits::NESTING;
+    let whole = Cursor {
+        room: limits::NESTING,
+        ..cursor
+    };
     phrase(text, whole, levels::DISJUNCTION, places, meanings, out)
 }
 
@@ -70,28 +72,35 @@ fn phrase(
         (phrase_within cursor.room level (tokens_from text.now cursor.at)) }
 {
     let brackets = source_onward::brackets_at(text, cursor.at);
-    let mut operand = cursor;
-    operand.at = brackets.first;
+    let operand = Cursor {
+        at: brackets.first,
+        ..cursor
+    };
     let mut opened = brackets.opened;
-    let mut r = primary(text, operand, places, meanings, out);
+    let mut formula = primary(text, operand, places, meanings, out)?;
     loop {
-        let Read::Done(to, depth, end, w) = r else {
-            return r;
-        };
-        match onward_at(text, to, level, opened, depth, cursor.room) {
-            Onward::Ended => return r,
-            Onward::Fault(v) => return Read::Fault(v),
+        match onward_at(
+            text,
+            formula.next,
+            level,
+            opened,
+            formula.depth,
+            cursor.room,
+        )? {
+            Onward::Ended => return Ok(formula),
             Onward::Closed(next) => {
-                opened = opened - 1;
-                r = Read::Done(next, depth, end, w);
+                opened -= 1;
+                formula.next = next;
             }
             Onward::Operator(f, t, next) => {
-                let mut second = cursor;
-                second.at = next;
-                second.end = end;
-                second.room = cursor.room - 1;
-                r = phrase(text, second, t, places, meanings, out);
-                r = close(f, cursor.end, depth, w, r, out);
+                let right = Cursor {
+                    at: next,
+                    end: formula.end,
+                    room: cursor.room - 1,
+                    ..cursor
+                };
+                let r = phrase(text, right, t, places, meanings, out);
+                formula = close(f, cursor.end, formula.depth, formula.stray, r, out)?;
             }
         }
     }
@@ -114,19 +123,30 @@ fn primary(
         (read_primary (phrase_within (cursor.room - 1)) cursor.room (tokens_from text.now cursor.at)) }
 {
     let standing = source_onward::sign_before(text, cursor.at);
-    let mut behind = cursor;
-    behind.at = standing.next;
+    let behind = Cursor {
+        at: standing.next,
+        ..cursor
+    };
     if standing.sign == functions::NOT {
         if cursor.room < 2 {
-            return Read::Fault(fault_word(faults::TOO_DEEP, standing.place));
+            return Err(Fault {
+                kind: Kind::TooDeep,
+                place: standing.place,
+            });
         }
-        behind.room = cursor.room - 1;
-        let r = phrase(text, behind, 0, places, meanings, out);
-        return close(functions::NOT, cursor.end, 0, 0, r, out);
+        let inner = Cursor {
+            room: cursor.room - 1,
+            ..behind
+        };
+        let r = phrase(text, inner, 0, places, meanings, out);
+        return close(functions::NOT, cursor.end, 0, None, r, out);
     }
     if standing.sign == functions::IF {
         if cursor.room < 2 {
-            return Read::Fault(fault_word(faults::TOO_DEEP, standing.place));
+            return Err(Fault {
+                kind: Kind::TooDeep,
+                place: standing.place,
+            });
         }
         return choice(text, behind, places, meanings, out);
     }
@@ -143,12 +163,17 @@ fn choice(text: &[u8], cursor: Cursor, places: &[usize], meanings: &[usize], out
         cursor.room cursor.at cursor.end out.old out.new result
         (read_choice (phrase_within (cursor.room - 1) disjunction) (tokens_from text.now cursor.at)) }
 {
-    let mut r = Read::Done(cursor.at, 0, cursor.end, 0);
-    r = argument(text, OPENING, cursor, r, places, meanings, out);
-    r = argument(text, COMMA, cursor, r, places, meanings, out);
-    r = argument(text, COMMA, cursor, r, places, meanings, out);
-    r = source_onward::ended(text, r);
-    close(functions::IF, cursor.end, 0, 0, r, out)
+    let none = Ok(Formula {
+        next: cursor.at,
+        depth: 0,
+        end: cursor.end,
+        stray: None,
+    });
+    let one = argument(text, OPENING, cursor, none, places, meanings, out);
+    let two = argument(text, COMMA, cursor, one, places, meanings, out);
+    let three = argument(text, COMMA, cursor, two, places, meanings, out);
+    let r = source_onward::ended(text, three);
+    close(functions::IF, cursor.end, 0, None, r, out)
 }
 
 // A sign that is due, and an argument; what was read before is r, which goes on where the cursor was.
@@ -170,18 +195,14 @@ fn argument(
         (meaning_by text.now places.now cursor.sorted meanings.now) cursor.cells sign
         cursor.room out.old out.new r result }
 {
-    let Read::Done(at, depth, n, w) = r else {
-        return r;
+    let before = r?;
+    let due = sign_due(text, before.next, sign)?;
+    let inner = Cursor {
+        at: due.next,
+        end: before.end,
+        room: cursor.room - 1,
+        ..cursor
     };
-    match sign_due(text, at, sign) {
-        Due::Fault(v) => Read::Fault(v),
-        Due::Found(p, c, next) => {
-            let mut inner = cursor;
-            inner.at = next;
-            inner.end = n;
-            inner.room = cursor.room - 1;
-            let q = phrase(text, inner, levels::DISJUNCTION, places, meanings, out);
-            source_field::under(depth, w, q)
-        }
-    }
+    let formula = phrase(text, inner, levels::DISJUNCTION, places, meanings, out);
+    under(before.depth, before.stray, formula)
 }

@@ -1,5 +1,7 @@
 -- A handler's bytes: its event and phase before its expression, and the head in front of them make the handler's field.
-use Rattle.lib_base.proofs.Prelude.{ℕ, ◌≤◌, ◌+◌, ◌≡◌, refl, ◌∙◌, sym, ap, List, [], ◌∷◌, ◌++◌, append_assoc, append-nil}
+use Rattle.std.specs.Prelude.{Option}
+use Rattle.source_coding.specs.declared.faults.Fault.{Fault}
+use Rattle.lib_base.proofs.Prelude.{ℕ, ◌≤◌, ◌+◌, ◌≡◌, refl, ◌∙◌, sym, ap, List, ◌∷◌, ◌++◌, append_assoc, append-nil, []}
 use Rattle.lib_base.proofs.Prelude.{length, take, arith}
 use Rattle.spec_language.specs.Syntax.{Phase}
 use Rattle.spec_language.specs.Sheet.{Term, Clause, clause}
@@ -41,7 +43,7 @@ module _ (es : List TextEvent) (find : List ℕ → NameMeaning) (c : ℕ) where
       ∙ append_assoc (take (n + 3) o) (event_named es s ∷ encode_phase φ ∷ []) (encode_expr t) in
       rw z (enclosed_taken 5 n end o q (event_named es s ∷ encode_phase φ ∷ encode_expr t) (omega arith) g l i)
 
-  pub handler_written : (text : List ℕ) (s : List ℕ) (φ : Phase) (n to depth end w : ℕ) (o q : List ℕ) (e : Phrase) (us : List SheetToken)
+  pub handler_written : (text : List ℕ) (s : List ℕ) (φ : Phase) (n to depth end : ℕ) (w : Option Fault) (o q : List ℕ) (e : Phrase) (us : List SheetToken)
       → FormulaWritten text find c (n + 5) (opened o n (event_named es s) (encode_phase φ)) q to depth end w e us
       → n + 5 ≤ end → length o ≤ 8192 → length q ≡ length o
       → PartWritten (handler_coding es find c) text n o (as_field 5 n end q) to end w (on s φ e) us

@@ -1,5 +1,5 @@
 -- What the readings of a behaviour's handlers promise, in terms of the reader's functions (`read_reactions`).
-use Rattle.std.specs.Prelude.{ℕ, ◌+◌, ◌≤◌, ◌<◌, ◌≡◌, List, [], map, length, get_or, eqb}
+use Rattle.std.specs.Prelude.{Ok, Err, ℕ, ◌+◌, ◌≤◌, ◌<◌, ◌≡◌, List, map, length, get_or, eqb, []}
 use Rattle.lib_base.specs.Basics.{pick}
 use Rattle.spec_language.specs.Syntax.{Phase, immediate, later}
 use Rattle.spec_language.specs.Sheet.{Clause, clause}
@@ -12,11 +12,9 @@ use Rattle.source_language.specs.Meaning.{NameMeaning, event_named, term_of, cla
 use Rattle.source_language.specs.Reader.{Phrased, bad, got, sign_at, tokens_after, past_sign, name_due, body_declared, read_reactions}
 use Rattle.source_coding.specs.Places.{tokens_from, name_at, names_held, index_in}
 use Rattle.source_coding.specs.Sizes.{phrase_size, reactions_size}
-use Rattle.source_due.specs.declared.Due.{Due}
-use Rattle.source_due.specs.declared.Due.TheVariants as D
+use Rattle.source_due.specs.Due.{Due}
 use Rattle.source_declarations.specs.Declarations.{name_of_event}
-use Rattle.source_handlers.specs.declared.Part.{Part}
-use Rattle.source_handlers.specs.Parts.{Coding, PartAgrees, DueRead}
+use Rattle.source_handlers.specs.Parts.{PartDue, Coding, PartAgrees, DueRead}
 
 -- ---- how handlers become bytes, in a row of c cells
 
@@ -61,8 +59,8 @@ HandledEventRead text events marks at r =
     → DueRead (EventNumbered text events) text r (handler_event (names_held text events (length events)) ns (tokens_from text at))
 
 abbrev pub HandledEventWithin : ℕ → Due → Type 0
-HandledEventWithin count (D.Fault w) = Unit {0}
-HandledEventWithin count (D.Found p v next) = v < count
+HandledEventWithin count (Err w) = Unit {0}
+HandledEventWithin count (Ok d) = d.number < count
 
 abbrev pub PhaseNumbered : ℕ → ℕ → Phase → Type 0
 PhaseNumbered p v φ = v ≡ encode_phase φ
@@ -71,16 +69,16 @@ abbrev pub ColonRead : List ℕ → ℕ → ℕ → Due → Type 0
 ColonRead text at v r = (φ : Phase) → v ≡ encode_phase φ → DueRead PhaseNumbered text r (past_sign colon (got φ) (tokens_from text at))
 
 abbrev pub PhaseWithin : ℕ → ℕ → Due → Type 0
-PhaseWithin long at (D.Fault w) = Unit {0}
-PhaseWithin long at (D.Found p v next) = (at < next) × (next ≤ long) × (v ≤ 1)
+PhaseWithin long at (Err w) = Unit {0}
+PhaseWithin long at (Ok d) = (at < d.next) × (d.next ≤ long) × (d.number ≤ 1)
 
 -- a handler of event e from its phase on, whatever the events are, and its name
-abbrev pub HandlerRead : List ℕ → (List ℕ → NameMeaning) → ℕ → ℕ → ℕ → ℕ → List ℕ → List ℕ → Part → Type 0
+abbrev pub HandlerRead : List ℕ → (List ℕ → NameMeaning) → ℕ → ℕ → ℕ → ℕ → List ℕ → List ℕ → PartDue → Type 0
 HandlerRead text find c e at n o p r =
     (es : List TextEvent) (s : List ℕ) → e ≡ event_named es s → PartAgrees (handler_coding es find c) text n o p r (reaction_body s (tokens_from text at))
 
 -- all handlers, whatever the events are whose names stand at these places
-abbrev pub HandlersRead : List ℕ → (List ℕ → NameMeaning) → ℕ → List ℕ → ℕ → ℕ → List ℕ → List ℕ → Part → Type 0
+abbrev pub HandlersRead : List ℕ → (List ℕ → NameMeaning) → ℕ → List ℕ → ℕ → ℕ → List ℕ → List ℕ → PartDue → Type 0
 HandlersRead text find c events at n o p r =
     (es : List TextEvent) → map (name_at text) events ≡ map name_of_event es
     → PartAgrees (handlers_coding es find c) text n o p r (read_reactions (after_all with_event [] es) (tokens_from text at))

@@ -8,17 +8,18 @@ ghost use Rattle.source_coding.specs.Places.{tokens_from};
 ghost use Rattle.source_names.specs.Known.{meaning_by};
 ghost use Rattle.source_due.specs.Due.{DueWithin};
 ghost use Rattle.source_field.specs.Formula.{Readable};
-ghost use Rattle.source_handlers.specs.Parts.{PartWithin, DueRead, refused_read};
+ghost use Rattle.source_handlers.specs.Parts.{PartWithin, DueRead};
 ghost use Rattle.source_handlers.specs.Handlers.{HandledEventRead, HandledEventWithin, PhaseNumbered, PhaseWithin};
 ghost use Rattle.source_handlers.specs.Handlers.{ColonRead, phase_declared, HandlerRead, HandlersRead};
 ghost use Rattle.source_coding.specs.Bounds.{handled_length, text_bytes};
 ghost use Rattle.spec_language.specs.Limits.{event_limit, sheet_bytes};
 
 use sheet_field::{sizes, tags};
-use source_coding::{faults, signs};
-use source_declarations::fault_in;
-use source_due::{Due, fault_word, name_due, sign_due};
-use source_field::{Cursor, Read, first_fault};
+use source_coding::faults::{Fault, Kind};
+use source_coding::signs;
+use source_due::{Due, Found, name_due, sign_due};
+use source_field::Cursor;
+use source_formula::formula_at;
 use spec_language::limits;
 
 const MARKS: usize = limits::EVENTS + 1;
@@ -28,22 +29,12 @@ const IMMEDIATE: u64 = 0;
 
 const LATER: u64 = 1;
 
-// A part of a text: the place behind it, the end of its bytes, and the first fault of its names, 0 for none; or a
-// fault's word.
-#[derive(Drop)]
-pub enum Part {
-    Done(usize, usize, u64),
-    Fault(u64),
-}
-
-// A formula is at fault, and so the part.
-pub fn refused_formula(read: Read) -> Part
-    ensures { result ≡ refused_read read }
-{
-    match read {
-        Read::Fault(w) => Part::Fault(w),
-        Read::Done(_, _, _, _) => Part::Fault(0),
-    }
+// A part of a text: the place behind it, the end of its bytes, and the first fault of its names, if there is one.
+#[derive(Clone, Copy, Drop)]
+pub struct Part {
+    pub next: usize,
+    pub end: usize,
+    pub stray: Option<Fault>,
 }
 
 // The event that a handler is for: declared, and `handled` has no mark for its number yet.
@@ -55,18 +46,25 @@ fn event_due(text: &[u8], at: usize, events: &[usize], handled: &[u8]) -> Due
     ensures due_within { DueWithin (length text.now) at result }
     ensures handled_event_within { HandledEventWithin (length events.now) result }
 {
-    let name = name_due(text, at);
-    let Due::Found(p, _, next) = name else {
-        return name;
-    };
-    let e = source_names::index_of(text, p, events);
+    let Found { place, next, .. } = name_due(text, at)?;
+    let e = source_names::index_of(text, place, events);
     if handled[e] == 1 {
-        return Due::Fault(fault_word(faults::SECOND_HANDLER, p));
+        return Err(Fault {
+            kind: Kind::SecondHandler,
+            place,
+        });
     }
     if e == events.len() {
-        return Due::Fault(fault_word(faults::UNKNOWN_NAME, p));
+        return Err(Fault {
+            kind: Kind::UnknownName,
+            place,
+        });
     }
-    Due::Found(p, e as u64, next)
+    Ok(Found {
+        place,
+        number: e as u64,
+        next,
+    })
 }
 
 // The colon before a handler's formula; its number is the phase.
@@ -77,11 +75,11 @@ fn colon_due(text: &[u8], at: usize, phase: u64) -> Due
     ensures colon_read { ColonRead text.now at phase result }
     ensures phase_within { PhaseWithin (length text.now) at result }
 {
-    let d = sign_due(text, at, signs::COLON);
-    let Due::Found(p, _, next) = d else {
-        return d;
-    };
-    Due::Found(p, phase, next)
+    let colon = sign_due(text, at, signs::COLON)?;
+    Ok(Found {
+        number: phase,
+        ..colon
+    })
 }
 
 // The phase and the colon.
@@ -91,11 +89,10 @@ fn phase_due(text: &[u8], at: usize) -> Due
     ensures due_read { DueRead PhaseNumbered text.now result (phase_declared (tokens_from text.now at)) }
     ensures phase_within { PhaseWithin (length text.now) at result }
 {
-    let d = sign_due(text, at, signs::LATER);
-    let Due::Found(_, _, next) = d else {
+    let Ok(later) = sign_due(text, at, signs::LATER) else {
         return colon_due(text, at, IMMEDIATE);
     };
-    colon_due(text, next, LATER)
+    colon_due(text, later.next, LATER)
 }
 
 // A handler for event e, from its phase on.
@@ -106,7 +103,7 @@ fn body_at(
     meanings: &[usize],
     e: u64,
     out: &mut [u8],
-) -> Part
+) -> Result<Part, Fault>
     requires readable { Readable text.now cursor places.now meanings.now }
     requires e_lt_event_limit { (e < event_limit) × (length out.old ≤ sheet_bytes) }
     ensures handler_read { HandlerRead text.now
@@ -116,20 +113,20 @@ fn body_at(
     ensures out_len_unchanged { length out.new ≡ length out.old }
 {
     let n = cursor.end;
-    let d = phase_due(text, cursor.at);
-    let Due::Found(_, phase, next) = d else {
-        return Part::Fault(fault_in(d));
+    let phase = phase_due(text, cursor.at)?;
+    sheet_write::put_handler(out, n, e as u8, phase.number as u8);
+    let inner = Cursor {
+        at: phase.next,
+        end: n + sizes::HANDLER_HEAD,
+        ..cursor
     };
-    sheet_write::put_handler(out, n, e as u8, phase as u8);
-    let mut formula = cursor;
-    formula.at = next;
-    formula.end = n + sizes::HANDLER_HEAD;
-    let r = source_formula::formula_at(text, formula, places, meanings, out);
-    let Read::Done(to, _, end, w) = r else {
-        return refused_formula(r);
-    };
-    sheet_write::enclose(out, n, end, tags::HANDLER);
-    Part::Done(to, end, w)
+    let formula = formula_at(text, inner, places, meanings, out)?;
+    sheet_write::enclose(out, n, formula.end, tags::HANDLER);
+    Ok(Part {
+        next: formula.next,
+        end: formula.end,
+        stray: formula.stray,
+    })
 }
 
 // All handlers from the cursor on.
@@ -140,7 +137,7 @@ pub fn handlers_at(
     meanings: &[usize],
     events: &[usize],
     out: &mut [u8],
-) -> Part
+) -> Result<Part, Fault>
     requires readable { Readable text.now cursor places.now meanings.now }
     requires events_len_bound { (length events.now ≤ event_limit) × (length out.old ≤ sheet_bytes) }
     ensures handlers_read { HandlersRead text.now
@@ -150,28 +147,27 @@ pub fn handlers_at(
     ensures out_len_unchanged { length out.new ≡ length out.old }
 {
     let mut handled = [0u8; MARKS];
-    let mut f = cursor.at;
-    let mut end = cursor.end;
-    let mut w = 0u64;
+    let mut part = Part {
+        next: cursor.at,
+        end: cursor.end,
+        stray: None,
+    };
     loop {
-        let on = sign_due(text, f, signs::ON);
-        let Due::Found(_, _, next) = on else {
-            return Part::Done(f, end, w);
+        let Ok(on) = sign_due(text, part.next, signs::ON) else {
+            return Ok(part);
         };
-        let event = event_due(text, next, events, &handled);
-        let Due::Found(_, e, after) = event else {
-            return Part::Fault(fault_in(event));
+        let event = event_due(text, on.next, events, &handled)?;
+        let body = Cursor {
+            at: event.next,
+            end: part.end,
+            ..cursor
         };
-        let mut body = cursor;
-        body.at = after;
-        body.end = end;
-        let r = body_at(text, body, places, meanings, e, out);
-        let Part::Done(to, stop, v) = r else {
-            return r;
+        let handler = body_at(text, body, places, meanings, event.number, out)?;
+        handled[event.number as usize] = 1;
+        part = Part {
+            next: handler.next,
+            end: handler.end,
+            stray: part.stray.or(handler.stray),
         };
-        handled[e as usize] = 1;
-        f = to;
-        end = stop;
-        w = first_fault(w, v);
     }
 }

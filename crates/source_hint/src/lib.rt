@@ -11,7 +11,6 @@ ghost use Rattle.source_hint.specs.Block.{block_bytes};
 ghost use Rattle.spec_language.specs.Limits.{behaviour_limit, most_cells};
 
 use source_coding::{limits as texts, signs};
-use source_due::Due;
 use source_tokens::{Token, in_word, token_at};
 use spec_language::limits;
 use text_marks::byte_at;
@@ -163,15 +162,13 @@ fn hinted_cells(text: &[u8], at: usize, word: u8) -> usize
     if word != signs::ROW {
         return 1;
     }
-    let opened = source_due::sign_due(text, at, signs::BRACKET);
-    let Due::Found(_, _, next) = opened else {
+    let Ok(opened) = source_due::sign_due(text, at, signs::BRACKET) else {
         return 0;
     };
-    let counted = source_due::number_due(text, next, MOST_CELLS);
-    let Due::Found(_, cells, _) = counted else {
+    let Ok(counted) = source_due::number_due(text, opened.next, MOST_CELLS) else {
         return 0;
     };
-    cells as usize
+    counted.number as usize
 }
 
 // The declaration whose word begins at a place.
@@ -184,11 +181,10 @@ fn declared_at(text: &[u8], at: usize) -> Declaration
     let Token::Sign(_, c, next) = word else {
         return Declaration::Nothing;
     };
-    let name = source_due::name_due(text, next);
-    let Due::Found(p, _, after) = name else {
+    let Ok(name) = source_due::name_due(text, next) else {
         return Declaration::Nothing;
     };
-    Declaration::Seen(p, hinted_cells(text, after, c), after)
+    Declaration::Seen(name.place, hinted_cells(text, name.next, c), name.next)
 }
 
 // 1 for a parameter, which has no cells.

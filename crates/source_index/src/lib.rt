@@ -12,7 +12,8 @@ ghost use Rattle.source_coding.specs.Bounds.{name_limit};
 ghost use Rattle.source_names.specs.Units.{meaning_limit};
 ghost use Rattle.spec_language.specs.Limits.{behaviour_limit};
 
-use source_names::{CELL, Order, found_in, index_of, name_size, order_at};
+use source_names::{CELL, found_in, index_of, name_size, order_at};
+use std::cmp::Ordering;
 
 // The number of a behaviour's first cell; 0 past the list's end.
 fn cell_at(firsts: &[usize], i: usize) -> usize
@@ -70,11 +71,9 @@ pub fn put_meanings(
     ensures { MeaningsPut text.now names.now params firsts.now
         places.now (length places.now) meanings.old meanings.new }
 {
-    let mut k = 0;
-    while k < places.len() {
+    for k in 0..places.len() {
         let j = index_of(text, places[k], names);
         meanings[k] = meaning_number(j, params, firsts);
-        k = k + 1;
     }
 }
 
@@ -84,15 +83,13 @@ pub fn all_found(text: &[u8], names: &[usize], places: &[usize]) -> bool
     ensures { result ≡ true → AllFound text.now names.now places.now (length names.now) }
 {
     let n = places.len();
-    let mut j = 0;
-    while j < n {
+    for j in 0..n {
         if n <= found_in(text, names[j], places, n) {
             return false;
         }
         if n <= index_of(text, places[j], names) {
             return false;
         }
-        j = j + 1;
     }
     true
 }
@@ -104,11 +101,7 @@ fn belongs_before(text: &[u8], p: usize, n: usize, q: usize) -> bool
     if text.len() < q {
         return false;
     }
-    match order_at(text, p, n, q) {
-        Order::Before => true,
-        Order::Same => false,
-        Order::Behind => false,
-    }
+    order_at(text, p, n, q) == Ordering::Less
 }
 
 // A name's place goes among the first k, which are in order.
@@ -135,9 +128,7 @@ pub fn put_in_order(text: &[u8], names: &[usize], places: &mut [usize])
     requires { length names.now ≤ length places.old }
     ensures { length places.new ≡ length places.old }
 {
-    let mut k = 0;
-    while k < names.len() {
+    for k in 0..names.len() {
         insert_name(text, names[k], places, k);
-        k = k + 1;
     }
 }

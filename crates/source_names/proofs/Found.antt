@@ -9,8 +9,8 @@ use Rattle.source_language.specs.Scanner.{run_of_kind}
 use Rattle.source_coding.specs.Places.{name_at, index_in, behaviour_or_row, meaning_at}
 use Rattle.source_names.specs.Search.{order_of_bytes, order_at, by_order, seek, found_in}
 use Rattle.source_names.specs.Known.{word_only, number_means, cells_meant, meaning_number}
-use Rattle.source_names.specs.declared.Order.{Order}
-use Rattle.source_names.specs.declared.Order.TheVariants.{Before, Same, Behind}
+use Rattle.std.specs.declared.cmp.Ordering.{Ordering}
+use Rattle.std.specs.declared.cmp.Ordering.TheVariants.{Less, Equal, Greater}
 use Rattle.source_names.proofs.Laws.{name_goes, name_stops}
 
 -- ---- names are words
@@ -26,19 +26,19 @@ name_only text p = run_only (drop p text)
 
 -- ---- what is found is the same
 
-bytes_differ : (b c : ℕ) → order_of_bytes b c ≡ Same → ⊥
+bytes_differ : (b c : ℕ) → order_of_bytes b c ≡ Equal → ⊥
 bytes_differ b c e =
     let z : by_order (order_of_bytes b c) 0 1 0 ≡ 0 =
-    by_test (λ (o : Order). by_order o 0 1 0 ≡ 0) (in_word c)
-    (λ t. by_test (λ (o : Order). by_order o 0 1 0 ≡ 0) (ltb b c) (λ h. refl) (λ h. refl)) (λ f. refl) in
-    let y : by_order (order_of_bytes b c) 0 1 0 ≡ 1 = ap (λ (o : Order). by_order o 0 1 0) e in
+    by_test (λ (o : Ordering). by_order o 0 1 0 ≡ 0) (in_word c)
+    (λ t. by_test (λ (o : Ordering). by_order o 0 1 0 ≡ 0) (ltb b c) (λ h. refl) (λ h. refl)) (λ f. refl) in
+    let y : by_order (order_of_bytes b c) 0 1 0 ≡ 1 = ap (λ (o : Ordering). by_order o 0 1 0) e in
     absurd (omega arith)
 
-end_same : (b : Bool) → pick b Before Same ≡ Same → b ≡ false
-end_same true e = let y : ◌≡◌ {A = ℕ} 0 1 = ap (λ (o : Order). by_order o 0 1 0) e in absurd (omega arith)
+end_same : (b : Bool) → pick b Less Equal ≡ Equal → b ≡ false
+end_same true e = let y : ◌≡◌ {A = ℕ} 0 1 = ap (λ (o : Ordering). by_order o 0 1 0) e in absurd (omega arith)
 end_same false e = refl
 
-pub order_same : (text : List ℕ) (q : ℕ) (s : List ℕ) → word_only s ≡ true → order_at text q s ≡ Same → same s (name_at text q) ≡ true
+pub order_same : (text : List ℕ) (q : ℕ) (s : List ℕ) → word_only s ≡ true → order_at text q s ≡ Equal → same s (name_at text q) ≡ true
 unfolding order_at word_only same
 order_same text q [] w e = rw (name_stops text q (end_same (in_word (get_or text q 0)) e)) refl
 order_same text q (b ∷ s) w e =
@@ -50,10 +50,10 @@ order_same text q (b ∷ s) w e =
     rw (name_goes text q i, t) (order_same text (q + 1) s a.1 (rw t at e)))
     (λ f. absurd (bytes_differ b (get_or text q 0) (rw f at e)))
 
-by_order_law : (P : ℕ → Type 0) (o : Order) (x y z : ℕ) → (o ≡ Before → P x) → (o ≡ Same → P y) → (o ≡ Behind → P z) → P (by_order o x y z)
-by_order_law P Before x y z f g h = f refl
-by_order_law P Same x y z f g h = g refl
-by_order_law P Behind x y z f g h = h refl
+by_order_law : (P : ℕ → Type 0) (o : Ordering) (x y z : ℕ) → (o ≡ Less → P x) → (o ≡ Equal → P y) → (o ≡ Greater → P z) → P (by_order o x y z)
+by_order_law P Less x y z f g h = f refl
+by_order_law P Equal x y z f g h = g refl
+by_order_law P Greater x y z f g h = h refl
 
 module _ (text places s : List ℕ) (top : ℕ) (only : word_only s ≡ true) where
   abbrev Met : ℕ → Type 0

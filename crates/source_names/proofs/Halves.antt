@@ -5,7 +5,7 @@ use Rattle.lib_base.specs.Basics.{pick}
 use Rattle.source_language.specs.Tokens.{in_word}
 use Rattle.source_coding.specs.Places.{name_at}
 use Rattle.source_names.specs.Search.{order_of_bytes, order_at, by_order, seek}
-use Rattle.source_names.specs.declared.Order.TheVariants.{Before, Same, Behind}
+use Rattle.std.specs.declared.cmp.Ordering.TheVariants.{Less, Equal, Greater}
 use Rattle.source_names.proofs.Laws.{word_inside, name_goes, name_stops, in_name, behind_name}
 
 -- ---- two names
@@ -44,7 +44,7 @@ module _ {text : List ℕ} {p n q k : ℕ} (s : OrderSoFar text p n q k) where
   unfolding order_at
   order_stop h e = sym (s.whole ∙ rw (name_goes text (p + k) (in_it h), ne_eqb (get_or text (p + k) 0) (get_or text (q + k) 0) e))
 
-  pub order_end : n ≤ k → order_at text q (name_at text p) ≡ pick (in_word (get_or text (q + n) 0)) Before Same
+  pub order_end : n ≤ k → order_at text q (name_at text p) ≡ pick (in_word (get_or text (q + n) 0)) Less Equal
   unfolding order_at
   order_end h =
       let a : k ≡ n = omega (arith, s.within) in
@@ -86,11 +86,11 @@ module _ {text places s : List ℕ} {top steps lo hi : ℕ} (k : SoughtSoFar tex
         unfolding seek
         halved = stepped ∙ rw (lt-leb hi lo more, ← half, ← at_half, le-ltb (length text) q inside)
 
-        pub sought_same : order_at text q s ≡ Same → mid ≡ seek text places s top 7 0 top
+        pub sought_same : order_at text q s ≡ Equal → mid ≡ seek text places s top 7 0 top
         sought_same e = sym (halved ∙ rw e)
 
-        pub sought_before : order_at text q s ≡ Before → SoughtSoFar text places s top (steps - 1) lo mid
+        pub sought_before : order_at text q s ≡ Less → SoughtSoFar text places s top (steps - 1) lo mid
         sought_before e = record { whole = halved ∙ rw e; within = omega (arith, k.within) }
 
-        pub sought_behind : order_at text q s ≡ Behind → SoughtSoFar text places s top (steps - 1) (mid + 1) hi
+        pub sought_behind : order_at text q s ≡ Greater → SoughtSoFar text places s top (steps - 1) (mid + 1) hi
         sought_behind e = record { whole = halved ∙ rw e; within = k.within }

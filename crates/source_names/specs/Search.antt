@@ -4,22 +4,22 @@ use Rattle.std.specs.Prelude.{ℕ, zero, suc, ◌+◌, ◌-◌, ◌/◌, List, [
 use Rattle.lib_base.specs.Basics.{pick}
 use Rattle.source_language.specs.Tokens.{in_word}
 use Rattle.source_coding.specs.Places.{index_in}
-use Rattle.source_names.specs.declared.Order.{Order}
-use Rattle.source_names.specs.declared.Order.TheVariants.{Before, Same, Behind}
+use Rattle.std.specs.declared.cmp.Ordering.{Ordering}
+use Rattle.std.specs.declared.cmp.Ordering.TheVariants.{Less, Equal, Greater}
 
 -- a byte of a name and another byte at the same place: what is in no word ends the shorter name
-abbrev pub order_of_bytes : ℕ → ℕ → Order
-order_of_bytes b c = pick (in_word c) (pick (ltb b c) Before Behind) Behind
+abbrev pub order_of_bytes : ℕ → ℕ → Ordering
+order_of_bytes b c = pick (in_word c) (pick (ltb b c) Less Greater) Greater
 
 -- how the name s stands to the one at q
-unfoldable pub order_at : List ℕ → ℕ → List ℕ → Order
-order_at text q [] = pick (in_word (get_or text q 0)) Before Same
+unfoldable pub order_at : List ℕ → ℕ → List ℕ → Ordering
+order_at text q [] = pick (in_word (get_or text q 0)) Less Equal
 order_at text q (b ∷ s) = pick (eqb b (get_or text q 0)) (order_at text (q + 1) s) (order_of_bytes b (get_or text q 0))
 
-abbrev pub by_order : Order → ℕ → ℕ → ℕ → ℕ
-by_order Before x y z = x
-by_order Same x y z = y
-by_order Behind x y z = z
+abbrev pub by_order : Ordering → ℕ → ℕ → ℕ → ℕ
+by_order Less x y z = x
+by_order Equal x y z = y
+by_order Greater x y z = z
 
 -- the place of s among those from lo to hi, in so many steps; `none` where it is not met
 unfoldable pub seek : List ℕ → List ℕ → List ℕ → ℕ → ℕ → ℕ → ℕ → ℕ

@@ -12,6 +12,7 @@ ghost use Rattle.source_names.specs.Search.{order_of_bytes, order_at, seek, foun
 ghost use Rattle.source_names.specs.Units.{halvings};
 
 use source_tokens::{in_word, word_end};
+use std::cmp::Ordering;
 use text_marks::byte_at;
 
 // In the number that tells what a name means, so much stands for each cell that it has; a parameter has none.
@@ -37,10 +38,8 @@ fn alike(text: &[u8], p: usize, q: usize, n: usize) -> bool
     ensures { result ≡ same_bytes text.now p q n }
 {
     let mut r = true;
-    let mut k = 0;
-    while k < n {
+    for k in 0..n {
         r = r & (text[p + k] == text[q + k]);
-        k = k + 1;
     }
     r
 }
@@ -97,56 +96,44 @@ pub fn index_of(text: &[u8], p: usize, places: &[usize]) -> usize
         return 0;
     }
     let n = name_size(text, p);
-    let mut i = 0;
-    while i < places.len() {
+    for i in 0..places.len() {
         if same_name(text, p, n, places[i]) {
             return i;
         }
-        i = i + 1;
     }
-    i
-}
-
-// How a name stands to another: names are in order by their first bytes that differ.
-#[derive(Drop)]
-pub enum Order {
-    Before,
-    Same,
-    Behind,
+    places.len()
 }
 
 // A byte of a name and another one at the same place, where the other name may have ended: that is asked only of a byte
 // above.
-fn byte_order(b: u8, c: u8) -> Order
+fn byte_order(b: u8, c: u8) -> Ordering
     ensures { result ≡ order_of_bytes b c }
 {
     if b < c {
         if in_word(c) {
-            return Order::Before;
+            return Ordering::Less;
         }
     }
-    Order::Behind
+    Ordering::Greater
 }
 
-// How the name of n bytes at p stands to the one at q.
-pub fn order_at(text: &[u8], p: usize, n: usize, q: usize) -> Order
+// How the name of n bytes at p stands to the one at q: names are in order by their first bytes that differ.
+pub fn order_at(text: &[u8], p: usize, n: usize, q: usize) -> Ordering
     requires n_value { n ≡ length (name_at text.now p) }
     requires q_in_bounds { q ≤ length text.now }
     ensures { result ≡ order_at text.now q (name_at text.now p) }
 {
-    let mut k = 0;
-    while k < n {
+    for k in 0..n {
         let b = text[p + k];
         let c = byte_at(text, q + k);
         if b != c {
             return byte_order(b, c);
         }
-        k = k + 1;
     }
     if in_word(byte_at(text, q + n)) {
-        return Order::Before;
+        return Ordering::Less;
     }
-    Order::Same
+    Ordering::Equal
 }
 
 // Which of the first `top` names the one of n bytes at p is, where these are in order; `top` where it is not met.
@@ -169,13 +156,13 @@ fn sought(text: &[u8], p: usize, n: usize, places: &[usize], top: usize) -> usiz
         }
         steps = steps - 1;
         match order_at(text, p, n, q) {
-            Order::Before => {
+            Ordering::Less => {
                 hi = mid;
             }
-            Order::Same => {
+            Ordering::Equal => {
                 return mid;
             }
-            Order::Behind => {
+            Ordering::Greater => {
                 lo = mid + 1;
             }
         }

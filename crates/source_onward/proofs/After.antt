@@ -1,6 +1,11 @@
 -- What follows an operand: each answer is the turn that `after_operand` takes on the sign there.
-use Rattle.lib_base.proofs.Prelude.{ℕ, ◌≤◌, ◌<◌, ◌+◌, ◌-◌, suc, zero, ◌≡◌, refl, ◌∙◌, sym, ap, true, false, Bool, ◌&&◌}
-use Rattle.lib_base.proofs.Prelude.{List, [], ◌∷◌, length, get_or, drop, List·getD-eq-default, get_or-drop, eqb, ltb, leb}
+use Rattle.std.specs.Prelude.{Ok, Err}
+use Rattle.source_field.specs.declared.Formula.{Formula}
+use Rattle.source_field.specs.Formula.{Read, formula_done}
+use Rattle.source_onward.specs.declared.Onward.TheVariants.{Ended, Closed, Operator}
+use Rattle.source_coding.specs.declared.faults.Fault.{Fault}
+use Rattle.lib_base.proofs.Prelude.{ℕ, ◌≤◌, ◌<◌, ◌+◌, ◌-◌, suc, zero, ◌≡◌, refl, ◌∙◌, sym, ap, true, false, Bool, ◌&&◌, []}
+use Rattle.lib_base.proofs.Prelude.{List, ◌∷◌, length, get_or, drop, List·getD-eq-default, get_or-drop, eqb, ltb, leb}
 use Rattle.lib_base.proofs.Prelude.{add-one, ne_eqb, eqb-true, le-ltb, lt-ltb, ltb-false, eqb-false, ltb-true, lt-leb}
 use Rattle.lib_base.proofs.Prelude.{leb-true, arith}
 use Rattle.lib_base.specs.Basics.{pick}
@@ -14,23 +19,17 @@ use Rattle.source_language.specs.Text.{Phrase, operation}
 use Rattle.source_language.specs.Faults.{outside, too_deep}
 use Rattle.source_language.specs.Limits.{phrase_nesting}
 use Rattle.source_language.specs.Reader.{Phrased, bad, got, then_phrase, place_at, sign_at, past_sign, with_operator, after_operand}
-use Rattle.source_coding.specs.FaultWords.{fault_word}
+use Rattle.source_coding.specs.FaultWords.{fault_of}
 use Rattle.source_coding.specs.Places.{tokens_from}
 use Rattle.source_tokens.specs.Token.{TokenBegins, PassedOver}
 use Rattle.source_tokens.proofs.Begun.{tokens_some}
 use Rattle.source_tokens.proofs.Scanned.{tokens_end, tokens_begin}
 use Rattle.source_tokens.proofs.Opened.{not_by_byte, if_by_byte}
 use Rattle.source_tokens.proofs.Words.{NoOperator, word_no_operator}
-use Rattle.source_due.specs.Due.{SignTold}
-use Rattle.source_due.specs.declared.Due.{Due}
-use Rattle.source_due.specs.declared.Due.TheVariants as D
+use Rattle.source_due.specs.Due.{Due, found, SignTold}
 use Rattle.source_due.proofs.Passes.{sign_passes, sign_fails}
-use Rattle.source_field.specs.declared.Read.{Read}
-use Rattle.source_field.specs.declared.Read.TheVariants as R
-use Rattle.source_onward.specs.Onward.{SignStands, LoneMark, SignBefore, SignAhead, TokenPassed, joins_in, onward_of, OnwardRead, EndedRead}
+use Rattle.source_onward.specs.Onward.{OnwardDue, SignStands, LoneMark, SignBefore, SignAhead, TokenPassed, joins_in, onward_of, OnwardRead, EndedRead}
 use Rattle.source_onward.proofs.Stands.{above_begins, above_here, lone_stands}
-use Rattle.source_onward.specs.declared.Onward.{Onward}
-use Rattle.source_onward.specs.declared.Onward.TheVariants.{Ended, Closed, Operator, Fault}
 
 -- ---- operators
 
@@ -199,7 +198,7 @@ module _ (text : List ℕ) (at l depth room p c next : ℕ) (few : l ≤ 6) (s :
       let z : length (tokens_from text at) ≡ suc (length (tokens_from text next)) = ap length (s.onward x y) in
       omega arith
 
-  operator_on : (k : ℕ) → joins_in (level c) l k ≡ true → OnwardRead text at l k depth room (pick (ltb depth room) (Operator c (level c - 1) next) (Fault (fault_word too_deep p)))
+  operator_on : (k : ℕ) → joins_in (level c) l k ≡ true → OnwardRead text at l k depth room (pick (ltb depth room) (Ok (Operator c (level c - 1) next)) (Err (fault_of too_deep p)))
   operator_on k j =
       let r = joins_range (level c) l k few j in
       let b = level_two c r.0 in
@@ -215,11 +214,11 @@ module _ (text : List ℕ) (at l depth room p c next : ℕ) (few : l ≤ 6) (s :
         kind = too_deep;
         place = p;
         turned = after_deep go room l m a (tokens_from text at) k (rw s.level_is_law j) (rw d (ltb-false depth room e)) ∙ rw s.place_is;
-        word = refl;
+        told = refl;
       })
 
   unjoined : (k : ℕ) → joins_in (level c) l k ≡ false
-      → OnwardRead text at l k depth room (pick (eqb k 0) Ended (pick (eqb c closing) (Closed next) (Fault (fault_word outside p))))
+      → OnwardRead text at l k depth room (pick (eqb k 0) (Ok Ended) (pick (eqb c closing) (Ok (Closed next)) (Err (fault_of outside p))))
   unjoined zero j = λ go m a. after_ended go room l m a (tokens_from text at) (rw s.level_is_law j)
   unjoined (suc k) j =
       rw (ne_eqb (suc k) 0 (λ e. omega arith))
@@ -235,10 +234,10 @@ module _ (text : List ℕ) (at l depth room p c next : ℕ) (few : l ≤ 6) (s :
         kind = outside;
         place = p;
         turned = after_missing go room l m a (tokens_from text at) k (rw s.level_is_law j) (λ q. eqb-false c closing e (s.closing_is q)) ∙ rw s.place_is;
-        word = refl;
+        told = refl;
       }))
 
-  pub onward_read : (k : ℕ) (r : Onward) → r ≡ onward_of p c next l k depth room → OnwardRead text at l k depth room r
+  pub onward_read : (k : ℕ) (r : OnwardDue) → r ≡ onward_of p c next l k depth room → OnwardRead text at l k depth room r
   unfolding onward_of
   onward_read k r e = rw e (by_test (OnwardRead text at l k depth room) (joins_in (level c) l k) (operator_on k) (unjoined k))
 
@@ -248,27 +247,24 @@ unfolding joins_in
 no_operator zero = refl
 no_operator (suc t) = rw (ne_eqb (suc t) 0 (λ e. omega arith), lt-leb (suc t) 0 (omega arith))
 
-pub onward_lowest : (text : List ℕ) (at l k depth room : ℕ) → l ≡ 0 → k ≡ 0 → OnwardRead text at l k depth room Ended
+pub onward_lowest : (text : List ℕ) (at l k depth room : ℕ) → l ≡ 0 → k ≡ 0 → OnwardRead text at l k depth room (Ok Ended)
 onward_lowest text at l k depth room e d =
     rw (e, d) (λ go m a. after_ended go room 0 m a (tokens_from text at) (no_operator (level (sign_at (tokens_from text at)))))
 
 -- ---- the `)` of an `if`
 
-pub ended_none : (text : List ℕ) (r : Read) (w : ℕ) → r ≡ R.Fault w → EndedRead text r r
-ended_none text r w e = rw e refl
-
-module _ (text : List ℕ) (at depth end w : ℕ) (r : Read) (is : r ≡ R.Done at depth end w) (d : Due) (due : SignTold text at closing d) where
-  pub ended_missing : (v : ℕ) → d ≡ D.Fault v → EndedRead text r (R.Fault v)
+module _ (text : List ℕ) (f : Formula) (r : Read) (is : r ≡ Ok f) (d : Due) (due : SignTold text f.next closing d) where
+  pub ended_missing : (v : Fault) → d ≡ Err v → EndedRead text r (Err v)
   ended_missing v e =
       let h = rw e at due in
-      rw is (λ x. record { kind = outside; place = place_at (tokens_from text at); turned = sign_fails text at closing (λ us. got x us) v h; word = h.1 })
+      rw is (λ x. record { kind = outside; place = place_at (tokens_from text f.next); turned = sign_fails text f.next closing (λ us. got x us) v h; told = h.1 })
 
-  pub ended_found : (p c to next : ℕ) → d ≡ D.Found p c to → (at < to) × (to ≤ length text) → PassedOver text to next → EndedRead text r (R.Done next depth end w)
+  pub ended_found : (p c to next : ℕ) → d ≡ found p c to → (f.next < to) × (to ≤ length text) → PassedOver text to next → EndedRead text r (formula_done next f.depth f.end f.stray)
   ended_found p c to next e b o =
       let h = rw e at due in
-      let z : length (tokens_from text at) ≡ suc (length (tokens_from text next)) = ap length h ∙ ap (λ (ts : List SheetToken). suc (length ts)) o.all in
+      let z : length (tokens_from text f.next) ≡ suc (length (tokens_from text next)) = ap length h ∙ ap (λ (ts : List SheetToken). suc (length ts)) o.all in
       rw is (
-        λ x. sign_passes text at closing (λ us. got x us) p c to h ∙ ap (λ (ts : List SheetToken). got x ts) o.all,
+        λ x. sign_passes text f.next closing (λ us. got x us) p c to h ∙ ap (λ (ts : List SheetToken). got x ts) o.all,
         refl,
         refl,
         refl,

@@ -1,6 +1,6 @@
 -- How a formula goes on: the brackets before its first operand, what follows an operand, and the `)` of an `if`, each
 -- in terms of the definition's functions (`from_operand`, `after_operand`, `past_sign`).
-use Rattle.std.specs.Prelude.{ℕ, suc, ◌+◌, ◌-◌, ◌≤◌, ◌<◌, Bool, false, ◌≡◌, ◌≢◌, List, ◌∷◌, length, get_or, ltb, leb, eqb}
+use Rattle.std.specs.Prelude.{Result, Ok, Err, ℕ, suc, ◌+◌, ◌-◌, ◌≤◌, ◌<◌, Bool, false, ◌≡◌, ◌≢◌, List, ◌∷◌, length, get_or, ltb, leb, eqb}
 use Rattle.lib_base.specs.Basics.{pick}
 use Rattle.lib_signature.specs.Signature.{level}
 use Rattle.lib_signature.specs.Numbers.{not_fn, if_fn}
@@ -10,16 +10,21 @@ use Rattle.source_language.specs.Text.{Phrase, operation}
 use Rattle.source_language.specs.Faults.{outside, too_deep}
 use Rattle.source_language.specs.Limits.{phrase_nesting}
 use Rattle.source_language.specs.Reader.{Phrased, got, then_phrase, place_at, sign_at, past_sign, after_operand, from_operand}
-use Rattle.source_coding.specs.FaultWords.{fault_word}
+use Rattle.source_coding.specs.declared.faults.Fault.{Fault}
+use Rattle.source_coding.specs.FaultWords.{fault_of}
 use Rattle.source_coding.specs.Places.{tokens_from}
 use Rattle.source_tokens.specs.Token.{TokenBegins, PassedOver}
 use Rattle.source_tokens.specs.declared.Token.{Token}
 use Rattle.source_tokens.specs.declared.Token.TheVariants.{Number, Name, Sign}
 use Rattle.source_due.specs.Due.{FaultTold}
-use Rattle.source_field.specs.declared.Read.{Read}
-use Rattle.source_field.specs.declared.Read.TheVariants as R
+use Rattle.source_field.specs.Formula.{Read}
+use Rattle.source_field.specs.declared.Formula.{Formula}
 use Rattle.source_onward.specs.declared.Onward.{Onward}
-use Rattle.source_onward.specs.declared.Onward.TheVariants.{Ended, Closed, Operator, Fault}
+use Rattle.source_onward.specs.declared.Onward.TheVariants.{Ended, Closed, Operator}
+
+-- what follows an operand, or a fault
+abbrev pub OnwardDue : Type 0
+OnwardDue = Result Onward Fault
 
 -- ---- the sign at a place, 0 for another token
 
@@ -95,38 +100,38 @@ unfoldable pub joins_in : ℕ → ℕ → ℕ → Bool
 joins_in t l opened = pick (eqb t 0) false (pick (eqb opened 0) (leb t l) (leb t 6))
 
 -- by the sign's place, its number and the place behind it, after an operand that nests so deep
-unfoldable pub onward_of : ℕ → ℕ → ℕ → ℕ → ℕ → ℕ → ℕ → Onward
+unfoldable pub onward_of : ℕ → ℕ → ℕ → ℕ → ℕ → ℕ → ℕ → OnwardDue
 onward_of p c next l opened depth room =
     pick (joins_in (level c) l opened)
-    (pick (ltb depth room) (Operator c (level c - 1) next) (Fault (fault_word too_deep p)))
-    (pick (eqb opened 0) Ended (pick (eqb c closing) (Closed next) (Fault (fault_word outside p))))
+    (pick (ltb depth room) (Ok (Operator c (level c - 1) next)) (Err (fault_of too_deep p)))
+    (pick (eqb opened 0) (Ok Ended) (pick (eqb c closing) (Ok (Closed next)) (Err (fault_of outside p))))
 
 -- it says how `after_operand` goes on
-abbrev pub OnwardRead : List ℕ → ℕ → ℕ → ℕ → ℕ → ℕ → Onward → Type 0
-OnwardRead text at l opened depth room Ended =
+abbrev pub OnwardRead : List ℕ → ℕ → ℕ → ℕ → ℕ → ℕ → OnwardDue → Type 0
+OnwardRead text at l opened depth room (Ok Ended) =
     (next : ℕ → List SheetToken → Phrased Phrase) (m : ℕ) (a : Phrase) → after_operand next room l (suc m) opened a (tokens_from text at) ≡ got a (tokens_from text at)
-OnwardRead text at l opened depth room (Closed to) =
+OnwardRead text at l opened depth room (Ok (Closed to)) =
     ((next : ℕ → List SheetToken → Phrased Phrase) (m : ℕ) (a : Phrase) → after_operand next room l (suc m) opened a (tokens_from text at) ≡ after_operand next room l m (opened - 1) a (tokens_from text to))
     × (0 < opened) × TokenPassed text at to
-OnwardRead text at l opened depth room (Operator f t to) =
+OnwardRead text at l opened depth room (Ok (Operator f t to)) =
     ((next : ℕ → List SheetToken → Phrased Phrase) (m : ℕ) (a : Phrase) → phrase_nesting a ≡ depth
     → after_operand next room l (suc m) opened a (tokens_from text at) ≡ then_phrase (next t (tokens_from text to)) (λ b us. after_operand next room l m opened (operation f a b) us))
     × (t < 6) × (depth < room) × TokenPassed text at to
-OnwardRead text at l opened depth room (Fault w) =
+OnwardRead text at l opened depth room (Err w) =
     (next : ℕ → List SheetToken → Phrased Phrase) (m : ℕ) (a : Phrase) → phrase_nesting a ≡ depth → FaultTold (after_operand next room l (suc m) opened a (tokens_from text at)) w
 
 -- ---- the `)` of an `if`
 
 abbrev pub ReadInside : ℕ → Read → Type 0
-ReadInside long (R.Fault w) = Unit {0}
-ReadInside long (R.Done at depth end w) = at ≤ long
+ReadInside long (Err w) = Unit {0}
+ReadInside long (Ok f) = f.next ≤ long
 
-abbrev pub ClosedBehind : List ℕ → ℕ → ℕ → ℕ → ℕ → Read → Type 0
-ClosedBehind text at depth end w (R.Fault v) = (e : Phrase) → FaultTold (past_sign closing (λ us. got e us) (tokens_from text at)) v
-ClosedBehind text at depth end w (R.Done to depth₂ end₂ w₂) =
-    ((e : Phrase) → past_sign closing (λ us. got e us) (tokens_from text at) ≡ got e (tokens_from text to))
-    × (depth₂ ≡ depth) × (end₂ ≡ end) × (w₂ ≡ w) × TokenPassed text at to
+abbrev pub ClosedBehind : List ℕ → Formula → Read → Type 0
+ClosedBehind text f (Err v) = (e : Phrase) → FaultTold (past_sign closing (λ us. got e us) (tokens_from text f.next)) v
+ClosedBehind text f (Ok g) =
+    ((e : Phrase) → past_sign closing (λ us. got e us) (tokens_from text f.next) ≡ got e (tokens_from text g.next))
+    × (g.depth ≡ f.depth) × (g.end ≡ f.end) × (g.stray ≡ f.stray) × TokenPassed text f.next g.next
 
 abbrev pub EndedRead : List ℕ → Read → Read → Type 0
-EndedRead text (R.Fault w) q = q ≡ R.Fault w
-EndedRead text (R.Done at depth end w) q = ClosedBehind text at depth end w q
+EndedRead text (Err w) q = q ≡ Err w
+EndedRead text (Ok f) q = ClosedBehind text f q

@@ -13,9 +13,10 @@ ghost use Rattle.lib_signature.specs.Levels.{disjunction};
 ghost use Rattle.source_coding.specs.Bounds.{text_bytes};
 
 use lib_signature::{functions, levels};
-use source_coding::{faults, signs};
-use source_due::{Due, fault_word, sign_due};
-use source_field::Read;
+use source_coding::faults::{Fault, Kind};
+use source_coding::signs;
+use source_due::sign_due;
+use source_field::{Formula, Read};
 use source_tokens::{Token, in_word, mark_at, opening_at, pass_over};
 use text_marks::byte_at;
 
@@ -34,14 +35,13 @@ pub struct Brackets {
     pub opened: usize,
 }
 
-// What follows an operand: nothing of its formula; the `)` of a bracket of it, with the place behind; an operator, with
-// the level of its right operand and the place behind; or a fault's word.
-#[derive(Drop)]
+// What follows an operand: nothing of its formula; the `)` of a bracket of it, with the place behind; or an operator,
+// with the level of its right operand and the place behind.
+#[derive(Clone, Copy, Drop)]
 pub enum Onward {
     Ended,
     Closed(usize),
     Operator(u8, u64, usize),
-    Fault(u64),
 }
 
 // A token's place, sign and place behind it.
@@ -52,17 +52,17 @@ fn standing_of(token: Token) -> Standing
         Token::Number(p, v, next) => Standing {
             place: p,
             sign: 0,
-            next: next,
+            next,
         },
         Token::Name(p, next) => Standing {
             place: p,
             sign: 0,
-            next: next,
+            next,
         },
         Token::Sign(p, c, next) => Standing {
             place: p,
             sign: c,
-            next: next,
+            next,
         },
     }
 }
@@ -213,6 +213,7 @@ fn joins(t: u64, level: u64, opened: usize) -> bool
     t <= levels::DISJUNCTION
 }
 
+#[tactic(auto, using(lib_base::proofs::Pick::branches), unfolding(crate::specs::Onward::onward_of))]
 // What follows an operand that nests so deep, by the sign there.
 fn onward_of(
     place: usize,
@@ -222,24 +223,30 @@ fn onward_of(
     opened: usize,
     depth: usize,
     room: usize,
-) -> Onward
+) -> Result<Onward, Fault>
     requires { place ≤ text_bytes }
     ensures { result ≡ onward_of place sign next level opened depth room }
 {
     let t = lib_signature::level_of(sign);
     if joins(t, level, opened) {
         if depth < room {
-            return Onward::Operator(sign, t - 1, next);
+            return Ok(Onward::Operator(sign, t - 1, next));
         }
-        return Onward::Fault(fault_word(faults::TOO_DEEP, place));
+        return Err(Fault {
+            kind: Kind::TooDeep,
+            place,
+        });
     }
     if opened == 0 {
-        return Onward::Ended;
+        return Ok(Onward::Ended);
     }
     if sign == signs::CLOSING {
-        return Onward::Closed(next);
+        return Ok(Onward::Closed(next));
     }
-    Onward::Fault(fault_word(faults::OUTSIDE, place))
+    Err(Fault {
+        kind: Kind::Outside,
+        place,
+    })
 }
 
 // What follows an operand that nests so deep, in a formula of a level, inside so many brackets of its own. One of the
@@ -251,7 +258,7 @@ pub fn onward_at(
     opened: usize,
     depth: usize,
     room: usize,
-) -> Onward
+) -> Result<Onward, Fault>
     requires text_len_bound { length text.now ≤ text_bytes }
     requires at_in_bounds { at ≤ length text.now }
     requires level_le_disjunction { level ≤ disjunction }
@@ -260,7 +267,7 @@ pub fn onward_at(
 {
     if level == 0 {
         if opened == 0 {
-            return Onward::Ended;
+            return Ok(Onward::Ended);
         }
     }
     let standing = sign_ahead(text, at);
@@ -281,11 +288,10 @@ pub fn ended(text: &[u8], r: Read) -> Read
     requires read_inside { ReadInside (length text.now) r }
     ensures { EndedRead text.now r result }
 {
-    let Read::Done(at, depth, end, w) = r else {
-        return r;
-    };
-    match sign_due(text, at, signs::CLOSING) {
-        Due::Found(p, c, to) => Read::Done(pass_over(text, to), depth, end, w),
-        Due::Fault(v) => Read::Fault(v),
-    }
+    let formula = r?;
+    let closing = sign_due(text, formula.next, signs::CLOSING)?;
+    Ok(Formula {
+        next: pass_over(text, closing.next),
+        ..formula
+    })
 }

@@ -1,6 +1,8 @@
 -- Constants, names and cells: what is due there makes up what the definition reads (`read_constant`, `cell_of`), and a
 -- field of no parts is `FormulaWritten`.
-use Rattle.lib_base.proofs.Prelude.{ℕ, ◌≤◌, ◌<◌, ◌+◌, suc, ◌≡◌, refl, ◌∙◌, sym, ap, ◌≢◌, List, [], ◌∷◌, length, get_or}
+use Rattle.std.specs.Prelude.{Ok, Err, None}
+use Rattle.source_coding.specs.declared.faults.Fault.{Fault}
+use Rattle.lib_base.proofs.Prelude.{ℕ, ◌≤◌, ◌<◌, ◌+◌, suc, ◌≡◌, refl, ◌∙◌, sym, ap, ◌≢◌, List, ◌∷◌, length, get_or, []}
 use Rattle.lib_base.proofs.Prelude.{eqb, ltb, ne_eqb, arith}
 use Rattle.lib_base.proofs.Tools.{by_test, by_two}
 use Rattle.spec_language.specs.Sheet.{Term}
@@ -18,18 +20,12 @@ use Rattle.source_tokens.specs.Token.{TokenAt, TokenWithin, PassedOver}
 use Rattle.source_tokens.specs.declared.Token.{Token}
 use Rattle.source_tokens.specs.declared.Token.TheVariants.{Number, Name, Sign}
 use Rattle.source_tokens.proofs.Opened.{bracket_by_byte}
-use Rattle.source_due.specs.Due.{SignTold, NumberTold, ValueTold, DueWithin}
-use Rattle.source_due.proofs.Passes.{sign_passes, sign_fails, number_passes, number_fails}
-use Rattle.source_due.specs.declared.Due.{Due}
-use Rattle.source_due.specs.declared.Due.TheVariants as D
-use Rattle.source_field.specs.Formula.{FormulaRead, FormulaWithin, FewerLeft, PartRead}
-use Rattle.source_field.specs.declared.Read.{Read}
-use Rattle.source_field.specs.declared.Read.TheVariants.{Done, Fault}
+use Rattle.source_due.specs.Due.{Due, found, SignTold, NumberTold, ValueTold, DueWithin}
+use Rattle.source_due.proofs.Passes.{sign_passes, sign_fails, number_passes}
+use Rattle.source_field.specs.Formula.{Read, formula_done, FormulaRead, FormulaWithin, FewerLeft, PartRead}
 use Rattle.source_field.proofs.Laid.{laid_leaf, laid_fault, encoded_of}
 use Rattle.source_field.proofs.Parts.{laid_written}
-use Rattle.source_operand.specs.Operand.{LeafAs, leaf_done, leaf_placed, cell_number, CellDue, BracketTold, NoMoreLeft, plain_of, PlaceWithin, SettledRead}
-use Rattle.source_operand.specs.declared.Leaf.{Leaf}
-use Rattle.source_operand.specs.declared.Leaf.TheVariants.{Known, Unknown}
+use Rattle.source_operand.specs.Operand.{LeafDue, LeafAs, leaf_done, leaf_placed, cell_number, CellDue, BracketTold, NoMoreLeft, plain_of, PlaceWithin, SettledRead}
 use Rattle.source_language.proofs.Parses.{after_shorter}
 
 -- ---- a cell's number
@@ -39,21 +35,18 @@ past_then : {A B : Type 0} (c : ℕ) (f : List SheetToken → Phrased A) (g : A 
 unfolding past_sign
 past_then c f g ts = by_two (λ (x : Phrased _) (y : Phrased _). x ≡ then_phrase y g) (eqb (sign_at ts) c) (λ t. refl) (λ t. refl)
 
-pub cell_unnumbered : (text : List ℕ) (at w : ℕ) (r : Due) → NumberTold text at largest r → r ≡ D.Fault w → CellDue text at r
-cell_unnumbered text at w r h e = rw e (number_fails text at largest _ w (rw e at h))
-
-pub cell_unclosed : (text : List ℕ) (at p v next w : ℕ) (r q : Due) → NumberTold text at largest r → r ≡ D.Found p v next → SignTold text next unbracket q → q ≡ D.Fault w → CellDue text at q
+pub cell_unclosed : (text : List ℕ) (at p v next : ℕ) (w : Fault) (r q : Due) → NumberTold text at largest r → r ≡ found p v next → SignTold text next unbracket q → q ≡ Err w → CellDue text at (Err w)
 cell_unclosed text at p v next w r q h e g d =
     let s = rw d at g in
-    rw d record {
+    record {
       kind = outside;
       place = place_at (tokens_from text next);
       turned = number_passes text at largest _ p v next (rw e at h) ∙ sign_fails text next unbracket _ w s;
-      word = s.1;
+      told = s.1;
     }
 
-pub cell_numbered : (text : List ℕ) (at p v next s c to : ℕ) (r q : Due) → NumberTold text at largest r → r ≡ D.Found p v next → SignTold text next unbracket q → q ≡ D.Found s c to
-    → CellDue text at (D.Found p v to)
+pub cell_numbered : (text : List ℕ) (at p v next s c to : ℕ) (r q : Due) → NumberTold text at largest r → r ≡ found p v next → SignTold text next unbracket q → q ≡ found s c to
+    → CellDue text at (found p v to)
 cell_numbered text at p v next s c to r q h e g d =
     let n = rw e at h in
     let z = rw d at g in (
@@ -81,29 +74,29 @@ unfolding cell_of
 cell_as p s q ts us e = rw e (cell_then p s q us)
 
 -- a field of four bytes, or a name's fault
-leaf_read_law : (text : List ℕ) (find : List ℕ → NameMeaning) (c n : ℕ) (o : List ℕ) (to : ℕ) (e : Phrase) (us : List SheetToken) (leaf : Leaf) (x : OrFault Term) → term_of find c e ≡ x → LeafAs leaf x
+leaf_read_law : (text : List ℕ) (find : List ℕ → NameMeaning) (c n : ℕ) (o : List ℕ) (to : ℕ) (e : Phrase) (us : List SheetToken) (leaf : LeafDue) (x : OrFault Term) → term_of find c e ≡ x → LeafAs leaf x
     → phrase_size e ≡ 4 → phrase_nesting e ≡ 1 → us ≡ tokens_from text to → FormulaRead text find c n o (leaf_placed n leaf o) (leaf_done to n leaf) (got e us)
-leaf_read_law text find c n o to e us (Known tag i) (fault k p) t h s d u = absurd h
-leaf_read_law text find c n o to e us (Known tag i) (fine x) t h s d u =
-    laid_written (fine (field tag (i ∷ []))) u (sym d) (sym s) (rw t (ap fine h.0)) (laid_leaf n (field tag (i ∷ [])) o)
-leaf_read_law text find c n o to e us (Unknown w) (fault k p) t h s d u =
+leaf_read_law text find c n o to e us (Ok l) (fault k p) t h s d u = absurd h
+leaf_read_law text find c n o to e us (Ok l) (fine x) t h s d u =
+    laid_written (fine (field l.tag (l.number ∷ []))) u (sym d) (sym s) (rw t (ap fine h.0)) (laid_leaf n (field l.tag (l.number ∷ [])) o)
+leaf_read_law text find c n o to e us (Err w) (fault k p) t h s d u =
     laid_written (fault k p) u (sym d) (sym s) (rw t) (rw h (laid_fault n 4 o k p))
-leaf_read_law text find c n o to e us (Unknown w) (fine x) t h s d u = absurd h
+leaf_read_law text find c n o to e us (Err w) (fine x) t h s d u = absurd h
 
-leaf_within : (long p n to : ℕ) (leaf : Leaf) → p < to → to ≤ long → FormulaWithin long 1 p n (leaf_done to n leaf)
-leaf_within long p n to (Known tag i) h g = omega arith
-leaf_within long p n to (Unknown w) h g = omega arith
+leaf_within : (long p n to : ℕ) (leaf : LeafDue) → p < to → to ≤ long → FormulaWithin long 1 p n (leaf_done to n leaf)
+leaf_within long p n to (Ok l) h g = omega arith
+leaf_within long p n to (Err w) h g = omega arith
 
-leaf_left : (text : List ℕ) (at n to : ℕ) (leaf : Leaf) → length (tokens_from text to) ≤ length (tokens_from text at) → NoMoreLeft text at (leaf_done to n leaf)
-leaf_left text at n to (Known tag i) h = h
-leaf_left text at n to (Unknown w) h = h
+leaf_left : (text : List ℕ) (at n to : ℕ) (leaf : LeafDue) → length (tokens_from text to) ≤ length (tokens_from text at) → NoMoreLeft text at (leaf_done to n leaf)
+leaf_left text at n to (Ok l) h = h
+leaf_left text at n to (Err w) h = h
 
 -- what a name's reading promises, after its length is kept
 abbrev pub NameRead : List ℕ → (List ℕ → NameMeaning) → ℕ → ℕ → ℕ → ℕ → List ℕ → List ℕ → Read → Phrased Phrase → Type 0
 NameRead text find c p next n o o₂ r g = FormulaRead text find c n o o₂ r g × (FormulaWithin (length text) 1 p n r × NoMoreLeft text next r)
 
 module _ (text : List ℕ) (find : List ℕ → NameMeaning) (c p next n : ℕ) (s o : List ℕ) (bounds : (p < next) × (next ≤ length text)) where
-  pub name_read : (w : ℕ) (q : Due) (leaf : Leaf) (r : Read) (o₂ : List ℕ) → BracketTold text next q → q ≡ D.Fault w → LeafAs leaf (name_term p (find s)) → r ≡ leaf_done next n leaf
+  pub name_read : (w : Fault) (q : Due) (leaf : LeafDue) (r : Read) (o₂ : List ℕ) → BracketTold text next q → q ≡ Err w → LeafAs leaf (name_term p (find s)) → r ≡ leaf_done next n leaf
       → o₂ ≡ leaf_placed n leaf o → NameRead text find c p next n o o₂ r (cell_of p s (tokens_from text next))
   unfolding term_of phrase_size phrase_nesting
   name_read w q leaf r o₂ d e h f g =
@@ -113,16 +106,16 @@ module _ (text : List ℕ) (find : List ℕ → NameMeaning) (c p next n : ℕ) 
         (leaf_within (length text) p n next leaf bounds.0 bounds.1, leaf_left text next n next leaf (omega arith)),
       )
 
-  module _ (q b inside : ℕ) (d : Due) (due : BracketTold text next d) (is : d ≡ D.Found q b inside) where
+  module _ (q b inside : ℕ) (d : Due) (due : BracketTold text next d) (is : d ≡ found q b inside) where
     opened : tokens_from text next ≡ sign q bracket ∷ tokens_from text inside
     opened = rw is at due
 
-    pub cell_misread : (w : ℕ) (x : Due) → CellDue text inside x → x ≡ D.Fault w → NameRead text find c p next n o o (Fault w) (cell_of p s (tokens_from text next))
+    pub cell_misread : (w : Fault) (x : Due) → CellDue text inside x → x ≡ Err w → NameRead text find c p next n o o (Err w) (cell_of p s (tokens_from text next))
     cell_misread w x h e =
         let f = rw e at h in
-        rw (cell_as p s q (tokens_from text next) (tokens_from text inside) opened, f.turned) (f.word, (tt, tt))
+        rw (cell_as p s q (tokens_from text next) (tokens_from text inside) opened, f.turned) (f.told, (tt, tt))
 
-    pub cell_read : (j k to : ℕ) (x : Due) (leaf : Leaf) (r : Read) (o₂ : List ℕ) → CellDue text inside x → x ≡ D.Found j k to → (next ≤ inside) × (inside < to) × (to ≤ length text)
+    pub cell_read : (j k to : ℕ) (x : Due) (leaf : LeafDue) (r : Read) (o₂ : List ℕ) → CellDue text inside x → x ≡ found j k to → (next ≤ inside) × (inside < to) × (to ≤ length text)
         → LeafAs leaf (cell_term c p q k (find s)) → r ≡ leaf_done to n leaf → o₂ ≡ leaf_placed n leaf o → NameRead text find c p next n o o₂ r (cell_of p s (tokens_from text next))
     unfolding term_of phrase_size phrase_nesting
     cell_read j k to x leaf r o₂ h e b l f g =
@@ -136,12 +129,8 @@ module _ (text : List ℕ) (find : List ℕ → NameMeaning) (c p next n : ℕ) 
 -- ---- `[`
 
 module _ (text : List ℕ) (at p : ℕ) (o : PassedOver text at p) where
-  pub bracket_none : (w : ℕ) → (get_or text p 0 ≡ 91 → ⊥) → 0 < w → BracketTold text at (D.Fault w) × DueWithin (length text) at (D.Fault w)
-  bracket_none w h g = (bracket_by_byte text at p o h, g)
-
-  pub bracket_passed : (d : Due) → SignTold text p bracket d → DueWithin (length text) p d → BracketTold text at d × DueWithin (length text) at d
-  bracket_passed (D.Found q v next) h b = (o.all ∙ h, (omega (arith, o.onward, b.0), b.1, b.2, b.3))
-  bracket_passed (D.Fault w) h b = (λ z. h.0 (ap sign_at (sym o.all) ∙ z), b)
+  pub bracket_none : (w : Fault) → (get_or text p 0 ≡ 91 → ⊥) → BracketTold text at (Err w)
+  bracket_none w h = bracket_by_byte text at p o h
 
 -- ---- constants
 
@@ -172,13 +161,13 @@ ConstantRead text at n o o₂ r =
     ((find : List ℕ → NameMeaning) (c : ℕ) → FormulaRead text find c n o o₂ r (read_constant (tokens_from text at)))
     × (FormulaWithin (length text) 1 at n r × FewerLeft text at r)
 
-pub constant_misread : (text : List ℕ) (at n w : ℕ) (o : List ℕ) (x : Due) → ValueTold text at x → x ≡ D.Fault w → ConstantRead text at n o o (Fault w)
+pub constant_misread : (text : List ℕ) (at n : ℕ) (w : Fault) (o : List ℕ) (x : Due) → ValueTold text at x → x ≡ Err w → ConstantRead text at n o o (Err w)
 constant_misread text at n w o x h e =
     let f = rw e at h in
-    (λ find c. rw (constant_none (tokens_from text at) f.kind f.place f.turned) f.word, (tt, tt))
+    (λ find c. rw (constant_none (tokens_from text at) f.kind f.place f.turned) f.told, (tt, tt))
 
-pub constant_read : (text : List ℕ) (at n p w next : ℕ) (o o₂ : List ℕ) (x : Due) → ValueTold text at x → x ≡ D.Found p w next → DueWithin (length text) at x
-    → o₂ ≡ fitted o n (field 16 (word w)) → ConstantRead text at n o o₂ (Done next 1 (n + 7) 0)
+pub constant_read : (text : List ℕ) (at n p w next : ℕ) (o o₂ : List ℕ) (x : Due) → ValueTold text at x → x ≡ found p w next → DueWithin (length text) at x
+    → o₂ ≡ fitted o n (field 16 (word w)) → ConstantRead text at n o o₂ (formula_done next 1 (n + 7) None)
 unfolding term_of phrase_size phrase_nesting encode_expr
 constant_read text at n p w next o o₂ x h e b g =
     let f = rw e at h in
@@ -204,12 +193,12 @@ module _ (text : List ℕ) (find : List ℕ → NameMeaning) (c at n : ℕ) (o o
   sign_part p s next t h e = constant_part (let z = rw e at h in rw z)
 
   within_earlier : (p : ℕ) (q : Read) → at ≤ p → FormulaWithin (length text) 1 p n q → FormulaWithin (length text) 1 at n q
-  within_earlier p (Fault w) h g = tt
-  within_earlier p (Done to depth end w) h g = omega arith
+  within_earlier p (Err w) h g = tt
+  within_earlier p (Ok f) h g = omega arith
 
   fewer_left : (next : ℕ) (q : Read) → length (tokens_from text at) ≡ suc (length (tokens_from text next)) → NoMoreLeft text next q → FewerLeft text at q
-  fewer_left next (Fault w) h g = tt
-  fewer_left next (Done to depth end w) h g = omega arith
+  fewer_left next (Err w) h g = tt
+  fewer_left next (Ok f) h g = omega arith
 
   pub name_part : (p next : ℕ) (t : Token) → TokenAt text at t → TokenWithin (length text) at t → t ≡ Name p next → NameRead text find c p next n o o₂ r (cell_of p (name_at text p) (tokens_from text next))
       → PartRead text find c 1 at n o o₂ r (plain_of (tokens_from text at))
@@ -221,30 +210,24 @@ module _ (text : List ℕ) (find : List ℕ → NameMeaning) (c at n : ℕ) (o o
 
 -- ---- up to the token behind it
 
-pub settled_fault : (text : List ℕ) (r : Read) (w : ℕ) → r ≡ Fault w → SettledRead text r r
-settled_fault text r w e = rw e refl
-
-pub settled_done : (text : List ℕ) (r : Read) (to depth end w next : ℕ) → r ≡ Done to depth end w → PassedOver text to next → SettledRead text r (Done next depth end w)
-settled_done text r to depth end w next e b = rw e (next, refl, b)
-
 pub read_within : (long room at n : ℕ) (r : Read) → FormulaWithin long room at n r → PlaceWithin long r
-read_within long room at n (Fault w) h = tt
-read_within long room at n (Done to depth end w) h = h.1
+read_within long room at n (Err w) h = tt
+read_within long room at n (Ok f) h = h.1
 
 module _ (text : List ℕ) (find : List ℕ → NameMeaning) (c room at n : ℕ) (o p : List ℕ) where
   settled-reads : (r q : Read) (g : Phrased Phrase) → FormulaRead text find c n o p r g → SettledRead text r q → FormulaRead text find c n o p q g
-  settled-reads (Fault w) q g h e = rw e h
-  settled-reads (Done to depth end w) q (bad k j) h e = absurd h
-  settled-reads (Done to depth end w) q (got x us) h (next, e, b) =
+  settled-reads (Err w) q g h e = rw e h
+  settled-reads (Ok f) q (bad k j) h e = absurd h
+  settled-reads (Ok f) q (got x us) h (next, e, b) =
       rw e record { onward = h.onward ∙ b.all; nests = h.nests; size = h.size; names = h.names; bytes = h.bytes }
 
   settled_within : (r q : Read) → FormulaWithin (length text) room at n r → SettledRead text r q → FormulaWithin (length text) room at n q
-  settled_within (Fault w) q h e = rw e tt
-  settled_within (Done to depth end w) q h (next, e, b) = rw e (omega (arith, b.onward, b.within))
+  settled_within (Err w) q h e = rw e tt
+  settled_within (Ok f) q h (next, e, b) = rw e (omega (arith, b.onward, b.within))
 
   settled_fewer : (r q : Read) → FewerLeft text at r → SettledRead text r q → FewerLeft text at q
-  settled_fewer (Fault w) q h e = rw e tt
-  settled_fewer (Done to depth end w) q h (next, e, b) = rw (e, ← b.all) h
+  settled_fewer (Err w) q h e = rw e tt
+  settled_fewer (Ok f) q h (next, e, b) = rw (e, ← b.all) h
 
   pub settled_part : (r q : Read) (g : Phrased Phrase) → PartRead text find c room at n o p r g → SettledRead text r q → PartRead text find c room at n o p q g
   settled_part r q g h e =

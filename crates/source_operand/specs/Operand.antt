@@ -1,5 +1,5 @@
 -- What a name in a formula comes to: its meaning as the code holds it, and its field or its fault.
-use Rattle.std.specs.Prelude.{ℕ, ◌+◌, ◌≤◌, ◌<◌, ◌≡◌, ◌≢◌, List, [], ◌∷◌, length}
+use Rattle.std.specs.Prelude.{None, Some, Result, Ok, Err, ℕ, ◌+◌, ◌≤◌, ◌<◌, ◌≡◌, ◌≢◌, List, ◌∷◌, length, []}
 use Rattle.spec_language.specs.Sheet.{Term}
 use Rattle.spec_language.specs.Grammar.{field, encode_expr}
 use Rattle.sheet_write.specs.Writes.{fitted}
@@ -9,18 +9,19 @@ use Rattle.source_language.specs.Faults.{outside, OrFault, fault, fine}
 use Rattle.source_language.specs.Limits.{largest}
 use Rattle.source_language.specs.Meaning.{NameMeaning, nothing, a_parameter, a_behaviour, a_row}
 use Rattle.source_language.specs.Reader.{Phrased, bad, got, sign_at, past_sign, number_due, read_constant, cell_of}
-use Rattle.source_coding.specs.FaultWords.{fault_word}
+use Rattle.source_coding.specs.declared.faults.Fault.{Fault}
+use Rattle.source_coding.specs.FaultWords.{fault_of}
 use Rattle.source_coding.specs.Places.{tokens_from}
 use Rattle.source_tokens.specs.Token.{PassedOver}
-use Rattle.source_field.specs.declared.Read.{Read}
-use Rattle.source_field.specs.declared.Read.TheVariants.{Done, Fault}
-use Rattle.source_due.specs.Due.{FaultTold}
-use Rattle.source_due.specs.declared.Due.{Due}
-use Rattle.source_due.specs.declared.Due.TheVariants as D
+use Rattle.source_field.specs.Formula.{Read, formula_done}
+use Rattle.source_due.specs.Due.{Due, FaultTold}
 use Rattle.source_operand.specs.declared.Meaning.{Meaning}
 use Rattle.source_operand.specs.declared.Meaning.TheVariants.{Nothing, Parameter, Behaviour, Row}
 use Rattle.source_operand.specs.declared.Leaf.{Leaf}
-use Rattle.source_operand.specs.declared.Leaf.TheVariants.{Known, Unknown}
+
+-- a name's field, or its fault
+abbrev pub LeafDue : Type 0
+LeafDue = Result Leaf Fault
 
 -- a name's meaning, and that its numbers are bytes
 abbrev pub meant_by : Meaning → NameMeaning
@@ -35,43 +36,44 @@ MeaningWithin (Parameter i) = i < 128
 MeaningWithin (Behaviour i) = i < 128
 MeaningWithin (Row i n) = (i < 128) × (n ≤ 64)
 
--- a name's field by its tag and number, or its fault, is that of the expression x
-abbrev pub LeafAs : Leaf → OrFault Term → Type 0
-LeafAs (Known tag i) (fault k p) = ⊥
-LeafAs (Known tag i) (fine x) = (encode_expr x ≡ field tag (i ∷ [])) × (i < 256)
-LeafAs (Unknown w) (fault k p) = w ≡ fault_word k p
-LeafAs (Unknown w) (fine x) = ⊥
+-- it is that of the expression x
+abbrev pub LeafAs : LeafDue → OrFault Term → Type 0
+LeafAs (Ok l) (fault k p) = ⊥
+LeafAs (Ok l) (fine x) = (encode_expr x ≡ field l.tag (l.number ∷ [])) × (l.number < 256)
+LeafAs (Err w) (fault k p) = w ≡ fault_of k p
+LeafAs (Err w) (fine x) = ⊥
 
-abbrev pub LeafWithin : Leaf → Type 0
-LeafWithin (Known tag i) = i < 256
-LeafWithin (Unknown w) = Unit {0}
+abbrev pub LeafWithin : LeafDue → Type 0
+LeafWithin (Ok l) = l.number < 256
+LeafWithin (Err w) = Unit {0}
 
 -- such a field is read up to a place, and written where it fits
-abbrev pub leaf_done : ℕ → ℕ → Leaf → Read
-leaf_done to n (Known tag i) = Done to 1 (n + 4) 0
-leaf_done to n (Unknown w) = Done to 1 (n + 4) w
+abbrev pub leaf_done : ℕ → ℕ → LeafDue → Read
+leaf_done to n (Ok l) = formula_done to 1 (n + 4) None
+leaf_done to n (Err w) = formula_done to 1 (n + 4) (Some w)
 
-abbrev pub leaf_placed : ℕ → Leaf → List ℕ → List ℕ
-leaf_placed n (Known tag i) o = fitted o n (field tag (i ∷ []))
-leaf_placed n (Unknown w) o = o
+abbrev pub leaf_placed : ℕ → LeafDue → List ℕ → List ℕ
+leaf_placed n (Ok l) o = fitted o n (field l.tag (l.number ∷ []))
+leaf_placed n (Err w) o = o
 
 -- a cell's number and the `]` after it
 abbrev pub cell_number : List SheetToken → Phrased ℕ
 cell_number ts = number_due largest (λ r n us. past_sign unbracket (λ vs. got n vs) us) ts
 
 abbrev pub CellDue : List ℕ → ℕ → Due → Type 0
-CellDue text at (D.Found p v next) = (cell_number (tokens_from text at) ≡ got v (tokens_from text next)) × (length (tokens_from text next) < length (tokens_from text at))
-CellDue text at (D.Fault w) = FaultTold (cell_number (tokens_from text at)) w
+CellDue text at (Ok d) =
+    (cell_number (tokens_from text at) ≡ got d.number (tokens_from text d.next)) × (length (tokens_from text d.next) < length (tokens_from text at))
+CellDue text at (Err w) = FaultTold (cell_number (tokens_from text at)) w
 
 -- a `[` and the place behind it; else no `[` stands first
 abbrev pub BracketTold : List ℕ → ℕ → Due → Type 0
-BracketTold text at (D.Found p v next) = tokens_from text at ≡ sign p bracket ∷ tokens_from text next
-BracketTold text at (D.Fault w) = sign_at (tokens_from text at) ≢ bracket
+BracketTold text at (Ok d) = tokens_from text at ≡ sign d.place bracket ∷ tokens_from text d.next
+BracketTold text at (Err w) = sign_at (tokens_from text at) ≢ bracket
 
 -- no more tokens are left than from a place on
 abbrev pub NoMoreLeft : List ℕ → ℕ → Read → Type 0
-NoMoreLeft text at (Fault w) = Unit {0}
-NoMoreLeft text at (Done to depth end w) = length (tokens_from text to) ≤ length (tokens_from text at)
+NoMoreLeft text at (Err w) = Unit {0}
+NoMoreLeft text at (Ok f) = length (tokens_from text f.next) ≤ length (tokens_from text at)
 
 -- a constant, a name or a cell, where one is due; `!` and `if` are none
 abbrev pub plain_of : List SheetToken → Phrased Phrase
@@ -82,10 +84,10 @@ plain_of (sign p c ∷ ts) = read_constant (sign p c ∷ ts)
 
 -- a reading's place is in a text of so many bytes
 abbrev pub PlaceWithin : ℕ → Read → Type 0
-PlaceWithin long (Fault w) = Unit {0}
-PlaceWithin long (Done to depth end w) = to ≤ long
+PlaceWithin long (Err w) = Unit {0}
+PlaceWithin long (Ok f) = f.next ≤ long
 
 -- the same reading, up to the token behind it
 abbrev pub SettledRead : List ℕ → Read → Read → Type 0
-SettledRead text (Fault w) q = q ≡ Fault w
-SettledRead text (Done to depth end w) q = (next : ℕ) × (q ≡ Done next depth end w) × PassedOver text to next
+SettledRead text (Err w) q = q ≡ Err w
+SettledRead text (Ok f) q = (next : ℕ) × (q ≡ formula_done next f.depth f.end f.stray) × PassedOver text f.next next

@@ -20,15 +20,17 @@ ghost use Rattle.source_names.specs.Units.{cell_unit, meaning_limit};
 ghost use Rattle.spec_language.specs.Limits.{behaviour_limit};
 
 use sheet_field::{sizes, tags};
-use source_coding::{faults, limits, signs};
-use source_due::{Due, fault_word, number_due, sign_due, value_of};
-use source_field::{Cursor, Read};
+use source_coding::faults::{Fault, Kind};
+use source_coding::{limits, signs};
+use source_due::{Due, Found, number_due, sign_due, value_of};
+use source_field::{Cursor, Formula, Read};
 use source_names::{CELL, found_in};
 use source_tokens::{Token, in_word, pass_over, token_at};
 use text_marks::byte_at;
 
-// What a name means: nothing, a parameter, a behaviour, or a row by its first cell and its count.
-#[derive(Drop)]
+// What a name means: nothing, a parameter, a behaviour, or a row by its first cell and its count. As the definition has
+// it (`NameMeaning`): nothing is one of four meanings, so this is no Option of three.
+#[derive(Clone, Copy, Drop)]
 pub enum Meaning {
     Nothing,
     Parameter(usize),
@@ -36,11 +38,11 @@ pub enum Meaning {
     Row(usize, usize),
 }
 
-// A name's field, by its tag and number; or its fault's word.
-#[derive(Drop)]
-pub enum Leaf {
-    Known(u8, usize),
-    Unknown(u64),
+// A name's field, by its tag and number.
+#[derive(Clone, Copy, Drop)]
+pub struct Leaf {
+    pub tag: u8,
+    pub number: usize,
 }
 
 // The meaning at a place of the list; 0 past its end.
@@ -95,23 +97,35 @@ fn meaning_of(text: &[u8], p: usize, places: &[usize], sorted: usize, meanings: 
 }
 
 // The field of a name at p.
-fn name_leaf(meaning: Meaning, p: usize) -> Leaf
+fn name_leaf(meaning: Meaning, p: usize) -> Result<Leaf, Fault>
     requires meaning_within { MeaningWithin meaning }
     requires p_le_text_bytes { p ≤ text_bytes }
     ensures leaf_as { LeafAs result (name_term p (meant_by meaning)) }
     ensures leaf_within { LeafWithin result }
 {
     match meaning {
-        Meaning::Nothing => Leaf::Unknown(fault_word(faults::UNKNOWN_NAME, p)),
-        Meaning::Parameter(i) => Leaf::Known(tags::PARAMETER, i),
-        Meaning::Behaviour(i) => Leaf::Known(tags::NAME, i),
-        Meaning::Row(i, n) => Leaf::Known(tags::NAME, i),
+        Meaning::Nothing => Err(Fault {
+            kind: Kind::UnknownName,
+            place: p,
+        }),
+        Meaning::Parameter(i) => Ok(Leaf {
+            tag: tags::PARAMETER,
+            number: i,
+        }),
+        Meaning::Behaviour(i) => Ok(Leaf {
+            tag: tags::NAME,
+            number: i,
+        }),
+        Meaning::Row(i, n) => Ok(Leaf {
+            tag: tags::NAME,
+            number: i,
+        }),
     }
 }
 
 // The field of cell k of the row of n cells from behaviour i on, in a handler of a row of so many cells, else of 0;
 // `[` is at q.
-fn row_cell(i: usize, n: usize, k: usize, q: usize, cells: usize) -> Leaf
+fn row_cell(i: usize, n: usize, k: usize, q: usize, cells: usize) -> Result<Leaf, Fault>
     requires i_lt_cell_unit { i < cell_unit }
     requires n_le_behaviour_limit { n ≤ behaviour_limit }
     requires q_le_text_bytes { q ≤ text_bytes }
@@ -119,19 +133,31 @@ fn row_cell(i: usize, n: usize, k: usize, q: usize, cells: usize) -> Leaf
     ensures leaf_within { LeafWithin result }
 {
     if n <= k {
-        return Leaf::Unknown(fault_word(faults::NO_SUCH_CELL, q));
+        return Err(Fault {
+            kind: Kind::NoSuchCell,
+            place: q,
+        });
     }
     if k != 0 {
-        return Leaf::Known(tags::NAME, i + k);
+        return Ok(Leaf {
+            tag: tags::NAME,
+            number: i + k,
+        });
     }
     if n == cells {
-        return Leaf::Unknown(fault_word(faults::NO_SUCH_CELL, q));
+        return Err(Fault {
+            kind: Kind::NoSuchCell,
+            place: q,
+        });
     }
-    Leaf::Known(tags::NAME, i)
+    Ok(Leaf {
+        tag: tags::NAME,
+        number: i,
+    })
 }
 
 // The field of cell k of the name at p, where `[` is at q.
-fn cell_leaf(meaning: Meaning, p: usize, q: usize, k: usize, cells: usize) -> Leaf
+fn cell_leaf(meaning: Meaning, p: usize, q: usize, k: usize, cells: usize) -> Result<Leaf, Fault>
     requires meaning_within { MeaningWithin meaning }
     requires p_le_text_bytes { p ≤ text_bytes }
     requires q_le_text_bytes { q ≤ text_bytes }
@@ -139,26 +165,45 @@ fn cell_leaf(meaning: Meaning, p: usize, q: usize, k: usize, cells: usize) -> Le
     ensures leaf_within { LeafWithin result }
 {
     match meaning {
-        Meaning::Nothing => Leaf::Unknown(fault_word(faults::UNKNOWN_NAME, p)),
-        Meaning::Parameter(i) => Leaf::Unknown(fault_word(faults::NO_SUCH_CELL, q)),
-        Meaning::Behaviour(i) => Leaf::Unknown(fault_word(faults::NO_SUCH_CELL, q)),
+        Meaning::Nothing => Err(Fault {
+            kind: Kind::UnknownName,
+            place: p,
+        }),
+        Meaning::Parameter(i) => Err(Fault {
+            kind: Kind::NoSuchCell,
+            place: q,
+        }),
+        Meaning::Behaviour(i) => Err(Fault {
+            kind: Kind::NoSuchCell,
+            place: q,
+        }),
         Meaning::Row(i, n) => row_cell(i, n, k, q, cells),
     }
 }
 
 // A name's field is written, or its fault kept; `to` is the place behind it.
-fn put_leaf(to: usize, leaf: Leaf, out: &mut [u8], n: usize) -> Read
+fn put_leaf(to: usize, leaf: Result<Leaf, Fault>, out: &mut [u8], n: usize) -> Read
     requires n_le_field_end { n ≤ field_end }
     requires leaf_within { LeafWithin leaf }
     ensures value { result ≡ leaf_done to n leaf }
     ensures out_after { out.new ≡ leaf_placed n leaf out.old }
 {
     match leaf {
-        Leaf::Known(tag, i) => {
-            sheet_write::put_byte_field(out, n, tag, i as u8);
-            Read::Done(to, 1, n + sizes::BYTE_FIELD, 0)
+        Ok(Leaf { tag, number }) => {
+            sheet_write::put_byte_field(out, n, tag, number as u8);
+            Ok(Formula {
+                next: to,
+                depth: 1,
+                end: n + sizes::BYTE_FIELD,
+                stray: None,
+            })
         }
-        Leaf::Unknown(w) => Read::Done(to, 1, n + sizes::BYTE_FIELD, w),
+        Err(stray) => Ok(Formula {
+            next: to,
+            depth: 1,
+            end: n + sizes::BYTE_FIELD,
+            stray: Some(stray),
+        }),
     }
 }
 
@@ -169,15 +214,12 @@ fn cell_number(text: &[u8], at: usize) -> Due
     ensures cell_due { CellDue text.now at result }
     ensures due_within { DueWithin (length text.now) at result }
 {
-    let number = number_due(text, at, limits::LARGEST);
-    let Due::Found(p, k, behind) = number else {
-        return number;
-    };
-    let bracket = sign_due(text, behind, signs::UNBRACKET);
-    let Due::Found(q, c, to) = bracket else {
-        return bracket;
-    };
-    Due::Found(p, k, to)
+    let number = number_due(text, at, limits::LARGEST)?;
+    let bracket = sign_due(text, number.next, signs::UNBRACKET)?;
+    Ok(Found {
+        next: bracket.next,
+        ..number
+    })
 }
 
 // `[`, where that is the first token from a place on; no other token is read.
@@ -189,7 +231,10 @@ fn bracket_at(text: &[u8], at: usize) -> Due
 {
     let p = pass_over(text, at);
     if byte_at(text, p) != b'[' {
-        return Due::Fault(fault_word(faults::OUTSIDE, p));
+        return Err(Fault {
+            kind: Kind::Outside,
+            place: p,
+        });
     }
     sign_due(text, p, signs::BRACKET)
 }
@@ -216,19 +261,18 @@ fn named_at(
     let p = cursor.at;
     let n = cursor.end;
     let meaning = meaning_of(text, p, places, cursor.sorted, meanings);
-    let bracket = bracket_at(text, next);
-    let Due::Found(q, c, inside) = bracket else {
+    let Ok(bracket) = bracket_at(text, next) else {
         return put_leaf(next, name_leaf(meaning, p), out, n);
     };
-    match cell_number(text, inside) {
-        Due::Found(r, k, to) => put_leaf(
-            to,
-            cell_leaf(meaning, p, q, k as usize, cursor.cells),
-            out,
-            n,
-        ),
-        Due::Fault(w) => Read::Fault(w),
-    }
+    let cell = cell_number(text, bracket.next)?;
+    let leaf = cell_leaf(
+        meaning,
+        p,
+        bracket.place,
+        cell.number as usize,
+        cursor.cells,
+    );
+    put_leaf(cell.next, leaf, out, n)
 }
 
 // A constant, a number or `-` and a number, where the token t stands.
@@ -241,13 +285,14 @@ fn constant_of(text: &[u8], at: usize, t: Token, out: &mut [u8], n: usize) -> Re
     ensures formula_within { FormulaWithin (length text.now) 1 at n result }
     ensures fewer_left { (FewerLeft text.now at result) × (length out.new ≡ length out.old) }
 {
-    match value_of(text, at, t) {
-        Due::Found(p, word, next) => {
-            sheet_write::put_word_field(out, n, tags::CONSTANT, word as u32);
-            Read::Done(next, 1, n + sizes::WORD_FIELD, 0)
-        }
-        Due::Fault(w) => Read::Fault(w),
-    }
+    let constant = value_of(text, at, t)?;
+    sheet_write::put_word_field(out, n, tags::CONSTANT, constant.number as u32);
+    Ok(Formula {
+        next: constant.next,
+        depth: 1,
+        end: n + sizes::WORD_FIELD,
+        stray: None,
+    })
 }
 
 // The first token from a place on: one of one byte is told by that and the next.
@@ -289,8 +334,7 @@ fn leaf_at(
     match t {
         Token::Number(p, v, next) => constant_of(text, cursor.at, t, out, n),
         Token::Name(p, next) => {
-            let mut named = cursor;
-            named.at = p;
+            let named = Cursor { at: p, ..cursor };
             named_at(text, named, next, places, meanings, out)
         }
         Token::Sign(p, c, next) => constant_of(text, cursor.at, t, out, n),
@@ -303,10 +347,11 @@ fn settled(text: &[u8], r: Read) -> Read
     requires { PlaceWithin (length text.now) r }
     ensures { SettledRead text.now r result }
 {
-    let Read::Done(to, depth, end, w) = r else {
-        return r;
-    };
-    Read::Done(pass_over(text, to), depth, end, w)
+    let formula = r?;
+    Ok(Formula {
+        next: pass_over(text, formula.next),
+        ..formula
+    })
 }
 
 // An operand that has no parts: a constant, a name or a cell, up to the token behind it.

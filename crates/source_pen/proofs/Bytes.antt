@@ -1,6 +1,6 @@
 -- Which two bytes run together: the code's tests against the definitions, by the value of the first.
 use Rattle.lib_base.proofs.Prelude.{ℕ, ◌≡◌, refl, ◌∙◌, sym, ap, true, false, Bool, true≢false, or-false}
-use Rattle.lib_base.proofs.Prelude.{[], ◌∷◌, eqb, ne_eqb, eqb-true}
+use Rattle.lib_base.proofs.Prelude.{◌⊎◌, inl, inr, [], ◌∷◌, eqb, ne_eqb, eqb-true}
 use Rattle.lib_base.specs.Basics.{pick}
 use Rattle.lib_base.proofs.Tools.{split, neither}
 use Rattle.source_language.specs.Tokens.{marks, same, sign_of, is_digit, is_letter, in_word}
@@ -68,11 +68,9 @@ equals_together a b h =
     (λ f. split (eqb a 62) (λ g. let q : a ≡ 62 = eqb-true a 62 g in rw q (after_more b (eqb b 61) refl))
     (λ g. let q : a ≡ 33 = eqb-true a 33 (rw (e, f, g) at h) in rw q (after_not b (eqb b 61) refl))))
 
-pub bars_together : (a b : ℕ) → a ≡ 124 → eqb b 124 ≡ run_together a b
-bars_together a b q = rw q (after_bar b (eqb b 124) refl)
-
-pub ands_together : (a b : ℕ) → a ≡ 38 → eqb b 38 ≡ run_together a b
-ands_together a b q = rw q (after_and b (eqb b 38) refl)
+pub doubled_together : (a b : ℕ) → (a ≡ 124) ⊎ ((a ≡ 124 → ⊥) × (a ≡ 38)) → eqb b a ≡ run_together a b
+doubled_together a b (inl q) = rw q (after_bar b (eqb b 124) refl)
+doubled_together a b (inr q) = rw q.1 (after_and b (eqb b 38) refl)
 
 pub others_apart : (a b : ℕ) → in_word a ≡ false → takes_equals a ≡ false → (a ≡ 124 → ⊥) → (a ≡ 38 → ⊥) → false ≡ run_together a b
 unfolding run_together takes_equals

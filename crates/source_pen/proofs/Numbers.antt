@@ -87,9 +87,6 @@ digits_end {n} {text} {i} {m} d h =
 part_all : (text : List ℕ) (r : ℕ) → length text ≡ 11 → take (11 - r) (drop r text) ≡ drop r text
 part_all text r l = take_all (11 - r) (drop r text) (rw (length-drop r text, l) (omega arith))
 
-pub part_short : (text : List ℕ) (r : ℕ) → length text ≡ 11 → length (take (11 - r) (drop r text)) ≤ 11
-part_short text r l = rw (part_all text r l, length-drop r text) (omega arith)
-
 pub part_digits : (text : List ℕ) (r n : ℕ) → length text ≡ 11 → drop r text ≡ digits n → take (11 - r) (drop r text) ≡ digits n
 part_digits text r n l e = part_all text r l ∙ e
 

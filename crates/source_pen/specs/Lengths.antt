@@ -11,10 +11,6 @@ longest_name = 11
 abbrev pub longest_token : ℕ
 longest_token = 12
 
--- the text's own signs
-abbrev pub sign_count : ℕ
-sign_count = 21
-
 -- a text and one more token
 abbrev pub pen_limit : ℕ
 pen_limit = 65548

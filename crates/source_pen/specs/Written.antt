@@ -1,6 +1,6 @@
 -- The bytes of a text as a pen writes them, token after token: what stands before a token is told by the last byte
 -- that was written. A pen is how many bytes are written and the last of them.
-use Rattle.std.specs.Prelude.{ℕ, zero, suc, ◌+◌, ◌≤◌, Bool, true, ◌≡◌, List, [], ◌∷◌, ◌++◌, length, take, drop, leb, eqb}
+use Rattle.std.specs.Prelude.{ℕ, ◌+◌, ◌≤◌, Bool, true, ◌≡◌, List, [], ◌∷◌, ◌++◌, length, take, drop, leb, eqb}
 use Rattle.lib_base.specs.Basics.{pick}
 use Rattle.source_language.specs.Tokens.{SheetToken, number, name, sign, on_word, param_word}
 use Rattle.source_rendering.specs.Describe.{spell, first_byte, run_together}
@@ -37,26 +37,22 @@ unfoldable pub written_after : ℕ → List SheetToken → List ℕ
 written_after a [] = []
 written_after a (t ∷ ts) = token_after a t ++ written_after (last_after a (token_after a t)) ts
 
--- the spellings of so many signs in a row, from one on
-unfoldable pub spellings_from : ℕ → ℕ → List ℕ
-spellings_from first zero = []
-spellings_from first (suc n) = spellings_from first n ++ spell (sign 0 (first + n))
-
 -- `=` after these makes one mark with them
 unfoldable pub takes_equals : ℕ → Bool
 takes_equals a = pick (eqb a 61) true (pick (eqb a 60) true (pick (eqb a 62) true (eqb a 33)))
 
 -- ---- the pen
 
--- from buffer o and one pen, to buffer p and the other, these bytes were written; where they are not all within the
+-- from one pen to the other, which has the same buffer, these bytes were written; where they are not all within the
 -- buffer they are counted only
-pub record Penned (o p : List ℕ) (pen after : Pen) (bs : List ℕ) : Type 0 where
+pub record Penned (pen after : Pen) (bs : List ℕ) : Type 0 where
   pub counted : after.at ≡ pen.at + length bs
   pub ended : after.last ≡ last_after pen.last bs
-  pub long : length p ≡ length o
-  pub bytes : after.at ≤ length o → take after.at p ≡ take pen.at o ++ bs
-  pub rest : after.at ≤ length o → drop after.at p ≡ drop after.at o
+  pub same : after.out.ghost_name ≡ pen.out.ghost_name
+  pub long : length after.out.now ≡ length pen.out.now
+  pub bytes : after.at ≤ length pen.out.now → take after.at after.out.now ≡ take pen.at pen.out.now ++ bs
+  pub rest : after.at ≤ length pen.out.now → drop after.at after.out.now ≡ drop after.at pen.out.now
 
 -- the same of the bytes of tokens
-pub record TokensPenned (o p : List ℕ) (pen after : Pen) (ts : List SheetToken) : Type 0 where
-  pub penned : Penned o p pen after (written_after pen.last ts)
+pub record TokensPenned (pen after : Pen) (ts : List SheetToken) : Type 0 where
+  pub penned : Penned pen after (written_after pen.last ts)

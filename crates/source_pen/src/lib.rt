@@ -4,54 +4,36 @@
 #![tactic(auto)]
 
 ghost use Rattle.std.specs.Prelude.{◌≡◌, [], ◌∷◌, ◌++◌, ◌<◌, ◌≤◌, ◌+◌, length, drop};
-ghost use Rattle.lib_signature.specs.Signature.{last};
-ghost use Rattle.source_language.specs.Tokens.{number, name, sign, opening, end_sign};
+ghost use Rattle.source_language.specs.Tokens.{number, name, sign, end_sign};
 ghost use Rattle.source_rendering.specs.Describe.{digits, spell, first_byte, run_together};
-ghost use Rattle.source_pen.specs.Written.{takes_equals, space_after, token_after, spellings_from, Penned, TokensPenned};
+ghost use Rattle.source_pen.specs.Written.{takes_equals, space_after, token_after, Penned, TokensPenned};
+ghost use Rattle.source_pen.specs.Kinds.{IsSign, Writable, token_of};
 ghost use Rattle.lib_base.specs.Words.{byte_values, word_values};
-ghost use Rattle.source_pen.specs.Lengths.{longest_name, longest_sign, longest_token, sign_count, spelling_limit, token_limit};
+ghost use Rattle.source_pen.specs.Lengths.{longest_name, longest_sign, longest_token, spelling_limit, token_limit};
 
+use lib_signature::functions;
 use source_coding::signs;
 use source_tokens::in_word;
-
-// The spellings of the functions in a row, and where each begins, which is where the one before it ends; 0 is none.
-const FUNCTIONS: [u8; 21] = *b"||&&!+-*/>>=<<===!=if";
-
-const FUNCTION_STARTS: [u8; 16] =
-    *b"\x00\x00\x02\x04\x05\x06\x07\x08\x09\x0a\x0c\x0d\x0f\x11\x13\x15";
-
-// The same of the text's own signs, from the first on.
-const SIGNS: [u8; 60] = *b"(),:=[]rankfrombynobodylaterseenonparameventpassiveactiverow";
-
-const SIGN_STARTS: [u8; 21] =
-    *b"\x00\x01\x02\x03\x04\x05\x06\x07\x0b\x0f\x11\x17\x1c\x20\x22\x27\x2c\x33\x39\x3c\x3c";
 
 // The most digits of a number below 2^32, and a letter before them.
 const NAME_BYTES: usize = 11;
 
 const TEN: u64 = 10;
 
-// How many bytes are written, and the last of them, 0 at the start.
-#[derive(Drop)]
-pub struct Pen {
-    pub at: usize,
-    pub last: u8,
+// A token: a sign by its number, the end of the text among them, a number, or a name of a letter and a number.
+#[derive(Clone, Copy, Drop)]
+pub enum Token {
+    Sign(u8),
+    Number(u64),
+    Name(u8, usize),
 }
 
 // Whether `=` after a byte makes one mark with it.
+#[tactic(auto, using(lib_base::proofs::Pick::branches), unfolding(crate::specs::Written::takes_equals))]
 fn takes_equals(a: u8) -> bool
     ensures { result ≡ takes_equals a }
 {
-    if a == b'=' {
-        return true;
-    }
-    if a == b'<' {
-        return true;
-    }
-    if a == b'>' {
-        return true;
-    }
-    a == b'!'
+    matches!(a, b'=' | b'<' | b'>' | b'!')
 }
 
 // Whether two bytes would be read as one token, or as part of one.
@@ -64,160 +46,171 @@ fn runs_together(a: u8, b: u8) -> bool
     if takes_equals(a) {
         return b == b'=';
     }
-    if a == b'|' {
-        return b == b'|';
-    }
-    if a == b'&' {
-        return b == b'&';
+    if a == b'|' || a == b'&' {
+        return b == a;
     }
     false
 }
 
-// One byte: the only place that writes.
-fn put_byte(out: &mut [u8], pen: Pen, b: u8) -> Pen
-    requires { pen.at ≤ token_limit }
-    ensures { Penned out.old out.new pen result (b ∷ []) }
+// The bytes of a sign: an operator or `if`, or a mark or a word of the text's own; none of the end of the text.
+#[tactic(auto, unfolding(source_rendering::specs::Describe::spelled_as, source_language::specs::Tokens::marks, source_language::specs::Tokens::reserved))]
+fn spelling(c: u8) -> &'static [u8]
+    requires { IsSign c }
+    ensures bytes { result.now ≡ spell (sign 0 c) }
+    ensures short { length result.now ≤ longest_sign }
+    ensures some { c < end_sign → 0 < length result.now }
 {
-    let n = pen.at;
-    if out.len() <= n {
-        return Pen { at: n + 1, last: b };
+    match c {
+        functions::OR => b"||",
+        functions::AND => b"&&",
+        functions::NOT => b"!",
+        functions::ADD => b"+",
+        functions::SUBTRACT => b"-",
+        functions::MULTIPLY => b"*",
+        functions::DIVIDE => b"/",
+        functions::ABOVE => b">",
+        functions::AT_LEAST => b">=",
+        functions::BELOW => b"<",
+        functions::AT_MOST => b"<=",
+        functions::EQUAL => b"==",
+        functions::UNEQUAL => b"!=",
+        functions::IF => b"if",
+        signs::OPENING => b"(",
+        signs::CLOSING => b")",
+        signs::COMMA => b",",
+        signs::COLON => b":",
+        signs::EQUALS => b"=",
+        signs::BRACKET => b"[",
+        signs::UNBRACKET => b"]",
+        signs::RANK => b"rank",
+        signs::FROM => b"from",
+        signs::BY => b"by",
+        signs::NOBODY => b"nobody",
+        signs::LATER => b"later",
+        signs::SEEN => b"seen",
+        signs::ON => b"on",
+        signs::PARAM => b"param",
+        signs::EVENT => b"event",
+        signs::PASSIVE => b"passive",
+        signs::ACTIVE => b"active",
+        signs::ROW => b"row",
+        _ => b"",
     }
-    out[n] = b;
-    Pen { at: n + 1, last: b }
-}
-
-// Bytes in a row.
-fn put_bytes(out: &mut [u8], pen: Pen, text: &[u8]) -> Pen
-    requires at_le_spelling_limit { pen.at ≤ spelling_limit }
-    requires text_len_bound { length text.now ≤ longest_name }
-    ensures { Penned out.old out.new pen result text.now }
-{
-    let mut after = pen;
-    let mut i = 0;
-    while i < text.len() {
-        after = put_byte(out, after, text[i]);
-        i = i + 1;
-    }
-    after
-}
-
-// A token's bytes, after a space where its first would run into the last that is written.
-fn put_apart(out: &mut [u8], pen: Pen, text: &[u8]) -> Pen
-    requires at_le_word_values { pen.at ≤ word_values }
-    requires text_nonzero { (0 < length text.now) × (length text.now ≤ longest_name) }
-    ensures { Penned out.old out.new pen result (space_after pen.last (first_byte text.now) ++ text.now) }
-{
-    if runs_together(pen.last, text[0]) {
-        let spaced = put_byte(out, pen, b' ');
-        return put_bytes(out, spaced, text);
-    }
-    put_bytes(out, pen, text)
-}
-
-// Where the spelling of a function begins among all of them.
-fn function_start(f: usize) -> usize
-    requires { f < last + 2 }
-    ensures { result ≡ length (spellings_from 0 f) }
-{
-    FUNCTION_STARTS[f] as usize
-}
-
-// And that of a sign of the text's own, by its place among them.
-fn sign_start(i: usize) -> usize
-    requires { i < sign_count }
-    ensures { result ≡ length (spellings_from opening i) }
-{
-    SIGN_STARTS[i] as usize
-}
-
-// A sign's spelling after what stands before it: declarations begin a line, handlers one below theirs, two spaces in.
-fn put_spelling(out: &mut [u8], pen: Pen, c: u8, text: &[u8]) -> Pen
-    requires at_le_word_values { pen.at ≤ word_values }
-    requires text_len_bound { length text.now ≤ longest_sign }
-    requires text_nonzero { c < end_sign → 0 < length text.now }
-    requires text_value { text.now ≡ spell (sign 0 c) }
-    ensures { Penned out.old out.new pen result (token_after pen.last (sign 0 c)) }
-{
-    if pen.last == 0 {
-        return put_bytes(out, pen, text);
-    }
-    if signs::PARAM <= c {
-        let fed = put_byte(out, pen, b'\n');
-        return put_bytes(out, fed, text);
-    }
-    if c == signs::ON {
-        let fed = put_bytes(out, pen, b"\n  ");
-        return put_bytes(out, fed, text);
-    }
-    put_apart(out, pen, text)
-}
-
-// A function's sign: an operator, or `if`.
-pub fn put_function(out: &mut [u8], pen: Pen, f: u8) -> Pen
-    requires at_le_word_values { pen.at ≤ word_values }
-    requires f_nonzero { (0 < f) × (f ≤ last) }
-    ensures tokens_penned { TokensPenned out.old out.new pen result (sign 0 f ∷ []) }
-    ensures at_bound { result.at ≤ pen.at + longest_token }
-{
-    let i = f as usize;
-    let start = function_start(i);
-    let end = function_start(i + 1);
-    put_spelling(out, pen, f, &FUNCTIONS[start..end])
-}
-
-// A sign of the text's own: a mark, a word, or the end of the text.
-pub fn put_sign(out: &mut [u8], pen: Pen, c: u8) -> Pen
-    requires at_le_word_values { pen.at ≤ word_values }
-    requires opening_le_c { (opening ≤ c) × (c ≤ end_sign) }
-    ensures tokens_penned { TokensPenned out.old out.new pen result (sign 0 c ∷ []) }
-    ensures at_bound { result.at ≤ pen.at + longest_token }
-{
-    let i = (c - signs::OPENING) as usize;
-    let start = sign_start(i);
-    let end = sign_start(i + 1);
-    put_spelling(out, pen, c, &SIGNS[start..end])
 }
 
 // The digits of a number, at the end of a buffer; where they begin.
 fn put_digits(n: u64, text: &mut [u8; NAME_BYTES]) -> usize
-    requires n_lt_word_values { n < word_values }
-    requires text_len { length text.old ≡ longest_name }
-    ensures text_after { drop result text.new ≡ digits n }
-    ensures result_nonzero { (0 < result) × (result < longest_name) }
-    ensures text_len_2 { length text.new ≡ longest_name }
+    requires { n < word_values }
+    ensures digits { drop result text.new ≡ digits n }
+    ensures room { (0 < result) × (result < longest_name) }
 {
     let mut i = NAME_BYTES - 1;
     let mut m = n;
     while TEN <= m {
         text[i] = b'0' + ((m % TEN) as u8);
-        i = i - 1;
-        m = m / TEN;
+        i -= 1;
+        m /= TEN;
     }
     text[i] = b'0' + (m as u8);
     i
 }
 
-// A number in decimal digits.
-pub fn put_number(out: &mut [u8], pen: Pen, n: u64) -> Pen
-    requires at_le_word_values { pen.at ≤ word_values }
-    requires n_lt_word_values { n < word_values }
-    ensures tokens_penned { TokensPenned out.old out.new pen result (number 0 n ∷ []) }
-    ensures at_bound { result.at ≤ pen.at + longest_token }
-{
-    let mut text = [0u8; NAME_BYTES];
-    let i = put_digits(n, &mut text);
-    put_apart(out, pen, &text[i..])
+// The text's buffer, how many bytes are written, and the last of them, 0 at the start.
+#[derive(Drop)]
+pub struct Pen<'a> {
+    pub out: &'a mut [u8],
+    pub at: usize,
+    pub last: u8,
 }
 
-// A name: a letter and the digits of i.
-pub fn put_name(out: &mut [u8], pen: Pen, letter: u8, i: usize) -> Pen
-    requires at_le_word_values { pen.at ≤ word_values }
-    requires i_lt_byte_values { i < byte_values }
-    ensures tokens_penned { TokensPenned out.old out.new pen result (name 0 (letter ∷ digits i) ∷ []) }
-    ensures at_bound { result.at ≤ pen.at + longest_token }
-{
-    let mut text = [0u8; NAME_BYTES];
-    let first = put_digits(i as u64, &mut text) - 1;
-    text[first] = letter;
-    put_apart(out, pen, &text[first..])
+impl<'a> Pen<'a> {
+    // One byte: the only place that writes.
+    fn byte(&mut self, b: u8)
+        requires { self.old.at ≤ token_limit }
+        ensures { Penned self.old self.new (b ∷ []) }
+    {
+        if self.at < self.out.len() {
+            self.out[self.at] = b;
+        }
+        self.at += 1;
+        self.last = b;
+    }
+
+    // Bytes in a row.
+    fn bytes(&mut self, text: &[u8])
+        requires { (self.old.at ≤ spelling_limit) × (length text.now ≤ longest_name) }
+        ensures { Penned self.old self.new text.now }
+    {
+        for &b in text {
+            self.byte(b);
+        }
+    }
+
+    // A token's bytes, after a space where its first would run into the last that is written.
+    fn apart(&mut self, text: &[u8])
+        requires { (self.old.at ≤ word_values) × (0 < length text.now) × (length text.now ≤ longest_name) }
+        ensures bytes { Penned self.old self.new (space_after self.old.last (first_byte text.now) ++ text.now) }
+        ensures bound { self.new.at ≤ self.old.at + longest_token }
+    {
+        if runs_together(self.last, text[0]) {
+            self.byte(b' ');
+        }
+        self.bytes(text);
+    }
+
+    // A sign after what stands before it: declarations begin a line, handlers one below theirs, two spaces in.
+    fn put_sign(&mut self, c: u8)
+        requires { (self.old.at ≤ word_values) × IsSign c }
+        ensures bytes { Penned self.old self.new (token_after self.old.last (sign 0 c)) }
+        ensures bound { self.new.at ≤ self.old.at + longest_token }
+    {
+        let text = spelling(c);
+        if self.last == 0 {
+            self.bytes(text);
+        } else if signs::PARAM <= c {
+            self.byte(b'\n');
+            self.bytes(text);
+        } else if c == signs::ON {
+            self.bytes(b"\n  ");
+            self.bytes(text);
+        } else {
+            self.apart(text);
+        }
+    }
+
+    // A number in decimal digits.
+    fn put_number(&mut self, n: u64)
+        requires { (self.old.at ≤ word_values) × (n < word_values) }
+        ensures bytes { Penned self.old self.new (token_after self.old.last (number 0 n)) }
+        ensures bound { self.new.at ≤ self.old.at + longest_token }
+    {
+        let mut text = [0u8; NAME_BYTES];
+        let i = put_digits(n, &mut text);
+        self.apart(&text[i..]);
+    }
+
+    // A name: a letter and the digits of i.
+    fn put_name(&mut self, letter: u8, i: usize)
+        requires { (self.old.at ≤ word_values) × (i < byte_values) }
+        ensures bytes { Penned self.old self.new (token_after self.old.last (name 0 (letter ∷ digits i))) }
+        ensures bound { self.new.at ≤ self.old.at + longest_token }
+    {
+        let mut text = [0u8; NAME_BYTES];
+        let first = put_digits(i as u64, &mut text) - 1;
+        text[first] = letter;
+        self.apart(&text[first..]);
+    }
+
+    // A token.
+    pub fn put(&mut self, token: Token)
+        requires { (self.old.at ≤ word_values) × Writable token }
+        ensures tokens { TokensPenned self.old self.new (token_of token ∷ []) }
+        ensures bound { self.new.at ≤ self.old.at + longest_token }
+    {
+        match token {
+            Token::Sign(c) => self.put_sign(c),
+            Token::Number(n) => self.put_number(n),
+            Token::Name(letter, i) => self.put_name(letter, i),
+        }
+    }
 }

@@ -1,26 +1,19 @@
 -- Tokens written one after the other: nothing, one token where the text is not yet over its length, parts in a row, and
 -- what is left to write in a loop.
-use Rattle.lib_base.proofs.Prelude.{ℕ, ◌≤◌, ◌<◌, ◌+◌, ◌≡◌, refl, ◌∙◌, sym, ap, List, [], ◌++◌, append_assoc, append-nil}
+use Rattle.lib_base.proofs.Prelude.{ℕ, ◌≤◌, ◌+◌, ◌≡◌, refl, ◌∙◌, sym, ap, List, [], ◌++◌, append_assoc, append-nil}
 use Rattle.lib_base.proofs.Prelude.{length, length-append, arith}
 use Rattle.source_language.specs.Tokens.{SheetToken}
 use Rattle.source_pen.specs.declared.Pen.{Pen}
-use Rattle.source_pen.specs.Written.{last_after, written_after, TokensPenned}
+use Rattle.source_pen.specs.Written.{last_after, written_after}
 use Rattle.source_pen.proofs.Pens.{written_joins, tokens_none, tokens_on}
 use Rattle.source_terms.specs.Put.{TokensPut}
 
-pub wrote_none : (o : List ℕ) (pen : Pen) → pen.at ≤ 65548 → TokensPut o o pen pen []
-wrote_none o pen h = record { as_long = refl; stops = h; tokens = λ _. tokens_none o pen }
+pub wrote_none : (pen : Pen) → pen.at ≤ 65548 → TokensPut pen pen []
+wrote_none pen h = record { same = refl; as_long = refl; stops = h; tokens = λ _. tokens_none pen }
 
--- over the length nothing is said
-pub wrote_over : (o : List ℕ) (pen : Pen) (ts : List SheetToken) → pen.at ≤ 65548 → 65536 < pen.at → TokensPut o o pen pen ts
-wrote_over o pen ts h l = record { as_long = refl; stops = h; tokens = λ g. absurd (omega arith) }
-
-pub wrote_one : {o p : List ℕ} {pen after : Pen} {ts : List SheetToken} → TokensPenned o p pen after ts → pen.at ≤ 65536 → after.at ≤ pen.at + 12
-    → TokensPut o p pen after ts
-wrote_one {o} {p} {pen} {after} {ts} d h l = record { as_long = d.penned.long; stops = omega arith; tokens = λ g. d }
-
-pub wrote_on : {o p q : List ℕ} {a b c : Pen} {ts us : List SheetToken} → TokensPut o p a b ts → TokensPut p q b c us → TokensPut o q a c (ts ++ us)
-wrote_on {o} {p} {q} {a} {b} {c} {ts} {us} d e = record {
+pub wrote_on : {a b c : Pen} {ts us : List SheetToken} → TokensPut a b ts → TokensPut b c us → TokensPut a c (ts ++ us)
+wrote_on {a} {b} {c} {ts} {us} d e = record {
+  same = e.same ∙ d.same;
   as_long = e.as_long ∙ d.as_long;
   stops = e.stops;
   tokens = λ g.
@@ -33,26 +26,26 @@ wrote_on {o} {p} {q} {a} {b} {c} {ts} {us} d e = record {
 }
 
 -- the same tokens, said otherwise
-pub wrote_as : {o p : List ℕ} {a b : Pen} {ts us : List SheetToken} → TokensPut o p a b ts → ts ≡ us → TokensPut o p a b us
-wrote_as {o} {p} {a} {b} {ts} {us} d e = rw (sym e) d
+pub wrote_as : {a b : Pen} {ts us : List SheetToken} → TokensPut a b ts → ts ≡ us → TokensPut a b us
+wrote_as {a} {b} {ts} {us} d e = rw (sym e) d
 
 -- ---- in a loop: what is written, and what is left, are all
 
-pub record Underway (o p : List ℕ) (a b : Pen) (left all : List SheetToken) : Type 0 where
+pub record Underway (a b : Pen) (left all : List SheetToken) : Type 0 where
   pub done : List SheetToken
-  pub so_far : TokensPut o p a b done
+  pub so_far : TokensPut a b done
   pub whole : done ++ left ≡ all
 
-pub under_start : (o : List ℕ) (pen : Pen) (all : List SheetToken) → pen.at ≤ 65548 → Underway o o pen pen all all
-under_start o pen all h = record { done = []; so_far = wrote_none o pen h; whole = refl }
+pub under_start : (pen : Pen) (all : List SheetToken) → pen.at ≤ 65548 → Underway pen pen all all
+under_start pen all h = record { done = []; so_far = wrote_none pen h; whole = refl }
 
-pub under_turn : {o p q : List ℕ} {a b c : Pen} {left ts rest all : List SheetToken} → Underway o p a b left all → TokensPut p q b c ts → left ≡ ts ++ rest → Underway o q a c rest all
-under_turn {o} {p} {q} {a} {b} {c} {left} {ts} {rest} {all} u w e = record {
+pub under_turn : {a b c : Pen} {left ts rest all : List SheetToken} → Underway a b left all → TokensPut b c ts → left ≡ ts ++ rest → Underway a c rest all
+under_turn {a} {b} {c} {left} {ts} {rest} {all} u w e = record {
   done = u.done ++ ts;
   so_far = wrote_on u.so_far w;
   whole = append_assoc u.done ts rest ∙ (ap (λ (l : List SheetToken). u.done ++ l) (sym e) ∙ u.whole);
 }
 
-pub under_end : {o p : List ℕ} {a b : Pen} {left all : List SheetToken} → Underway o p a b left all → left ≡ [] → TokensPut o p a b all
-under_end {o} {p} {a} {b} {left} {all} u e =
+pub under_end : {a b : Pen} {left all : List SheetToken} → Underway a b left all → left ≡ [] → TokensPut a b all
+under_end {a} {b} {left} {all} u e =
     wrote_as u.so_far (sym (append-nil u.done) ∙ (ap (λ (l : List SheetToken). u.done ++ l) (sym e) ∙ u.whole))

@@ -1,7 +1,7 @@
 -- The kinds of bytes by comparisons, each by computing the tests of a kind's definition.
-use Rattle.lib_base.proofs.Prelude.{ℕ, ◌≡◌, refl, true, false, false≢true, eqb, ne_eqb}
+use Rattle.lib_base.proofs.Prelude.{ℕ, ◌≡◌, refl, true, false, false≢true, ne_eqb}
 use Rattle.lib_base.proofs.Tools.{split, none_of}
-use Rattle.source_language.specs.Tokens.{is_digit, is_letter, in_word, is_blank, in_comment}
+use Rattle.source_language.specs.Tokens.{is_digit, is_letter, in_word, in_comment}
 use Rattle.text_marks.specs.Digits.{is_decimal}
 
 -- ---- digits, which are those of a formula's numbers
@@ -22,10 +22,6 @@ unfolding in_word
 word_none b h = none_of (is_letter b) (is_digit b) h
 
 -- ---- blanks and comments
-
-pub blank_none : (b : ℕ) → (b ≡ 32 → ⊥) → (b ≡ 10 → ⊥) → (b ≡ 9 → ⊥) → is_blank b ≡ eqb b 13
-unfolding is_blank
-blank_none b h g f = rw (ne_eqb b 32 h, ne_eqb b 9 f, ne_eqb b 10 g)
 
 pub comment_on : (b : ℕ) → (b ≡ 10 → ⊥) → in_comment b ≡ true
 unfolding in_comment

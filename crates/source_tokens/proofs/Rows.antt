@@ -2,7 +2,8 @@
 -- pass a test which the word passes.
 use Rattle.lib_base.proofs.Prelude.{ℕ, ◌≤◌, ◌<◌, ◌+◌, ◌≡◌, refl, ◌∙◌, sym, ap, true, false, Bool, false≢true, ◌&&◌, not, List, [], ◌∷◌}
 use Rattle.lib_base.proofs.Prelude.{length, get_or, take, drop, get_or-drop, get_or-take, eqb, leb, ne_eqb, eq-eqb, leb-true}
-use Rattle.lib_base.proofs.Prelude.{arith}
+use Rattle.lib_base.proofs.Prelude.{eqb-true, eqb-false, arith}
+use Rattle.std.specs.Prelude.{Option, Some, None}
 use Rattle.lib_base.specs.Basics.{pick}
 use Rattle.lib_base.proofs.Tools.{by_test, split, through}
 use Rattle.source_language.specs.Tokens.{Spelling, spelled, row_word, marks, reserved, same, sign_of}
@@ -110,3 +111,16 @@ mark_below w = sign_below row_word w marks refl
 pub word_below : (w : List ℕ) → sign_of w reserved ≤ row_word
 unfolding reserved all_below
 word_below w = sign_below row_word w reserved refl
+
+-- ---- a sign's number, where there is one
+
+pub number_some : (x : ℕ) {r : Option ℕ} {m : ℕ} → r ≡ pick (eqb x 0) None (Some x) → r ≡ Some m → (m ≡ x) × (m ≡ 0 → ⊥)
+number_some x {r} {m} p q =
+    let found : pick (eqb x 0) None (Some x) ≡ Some m = sym p ∙ q in
+    split (eqb x 0) (λ e. let f = rw e at found in let z : ◌≡◌ {A = ℕ} 0 1 = cc in absurd (omega arith))
+    (λ e. let f = rw e at found in let same : m ≡ x = cc in (same, λ z. eqb-false x 0 e (sym same ∙ z)))
+
+pub number_none : (x : ℕ) {r : Option ℕ} → r ≡ pick (eqb x 0) None (Some x) → r ≡ None → 0 ≡ x
+number_none x {r} p q =
+    let found : pick (eqb x 0) None (Some x) ≡ None = sym p ∙ q in
+    split (eqb x 0) (λ e. sym (eqb-true x 0 e)) (λ e. let f = rw e at found in let z : ◌≡◌ {A = ℕ} 0 1 = cc in absurd (omega arith))

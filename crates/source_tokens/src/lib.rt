@@ -2,7 +2,7 @@
 
 #![tactic(auto)]
 
-ghost use Rattle.std.specs.Prelude.{true, false, ◌≡◌, [], ◌∷◌, ◌≤◌, ◌<◌, ◌+◌, length, get_or, take, drop};
+ghost use Rattle.std.specs.Prelude.{true, false, Some, None, eqb, ◌≡◌, [], ◌∷◌, ◌≤◌, ◌<◌, ◌+◌, length, get_or, take, drop};
 ghost use Rattle.lib_base.specs.Basics.{pick};
 ghost use Rattle.source_language.specs.Tokens.{marks, reserved, same, sign_of, is_digit, is_letter, in_word, is_blank, in_comment};
 ghost use Rattle.source_language.specs.Scanner.{run_of_kind};
@@ -11,6 +11,7 @@ ghost use Rattle.source_coding.specs.Bounds.{text_bytes};
 
 use lib_signature::functions;
 use source_coding::{limits, signs};
+pub use text_marks::byte_at;
 use text_marks::is_digit;
 
 // A token with its place and the place behind it: a number as far as 2 ^ 31 + 1 between them, a name, a sign with its
@@ -22,21 +23,14 @@ pub enum Token {
     Sign(usize, u8, usize),
 }
 
-// The byte at a place; 0 past the end.
-pub fn byte_at(text: &[u8], at: usize) -> u8
-    ensures { result ≡ get_or text.now at 0 }
-{
-    text_marks::byte_at(text, at)
-}
-
 // The place of a token.
 pub fn place_of(token: Token) -> usize
     ensures { result ≡ place_of_token token }
 {
     match token {
-        Token::Number(p, v, next) => p,
-        Token::Name(p, next) => p,
-        Token::Sign(p, c, next) => p,
+        Token::Number(p, _, _) => p,
+        Token::Name(p, _) => p,
+        Token::Sign(p, _, _) => p,
     }
 }
 
@@ -55,19 +49,11 @@ pub fn in_word(b: u8) -> bool
 }
 
 // Space, tab, line feed, carriage return.
+#[tactic(auto, using(lib_base::proofs::Pick::branches), unfolding(source_language::specs::Tokens::is_blank))]
 fn is_blank(b: u8) -> bool
     ensures { result ≡ is_blank b }
 {
-    if b == b' ' {
-        return true;
-    }
-    if b == b'\n' {
-        return true;
-    }
-    if b == b'\t' {
-        return true;
-    }
-    b == b'\r'
+    matches!(b, b' ' | b'\n' | b'\t' | b'\r')
 }
 
 // Where the line ends that a place is in.
@@ -75,14 +61,12 @@ fn line_end(text: &[u8], at: usize) -> usize
     requires { at ≤ length text.now }
     ensures { result ≡ at + length (run_of_kind in_comment (drop at text.now)) }
 {
-    let mut i = at;
-    while i < text.len() {
+    for i in at..text.len() {
         if text[i] == b'\n' {
             return i;
         }
-        i = i + 1;
     }
-    i
+    text.len()
 }
 
 // The first place that is in no blank and no comment.
@@ -110,14 +94,12 @@ pub fn word_end(text: &[u8], at: usize) -> usize
     requires { at ≤ length text.now }
     ensures { result ≡ at + length (run_of_kind in_word (drop at text.now)) }
 {
-    let mut i = at;
-    while i < text.len() {
+    for i in at..text.len() {
         if !in_word(text[i]) {
             return i;
         }
-        i = i + 1;
     }
-    i
+    text.len()
 }
 
 // The sign where a text's n bytes are this word, else the other one.
@@ -128,12 +110,10 @@ fn spelled(text: &[u8], at: usize, n: usize, word: &[u8], sign: u8, other: u8) -
     if n != word.len() {
         return other;
     }
-    let mut i = 0;
-    while i < n {
+    for i in 0..n {
         if text[at + i] != word[i] {
             return other;
         }
-        i = i + 1;
     }
     sign
 }
@@ -174,15 +154,15 @@ fn reserved_at(text: &[u8], at: usize, n: usize) -> u8
     }
 }
 
-// The sign of a mark of one byte; 0 for none.
-fn short_sign(b: u8) -> u8
-    ensures { result ≡ sign_of (b ∷ []) marks }
+// The sign of a mark of one byte.
+fn short_sign(b: u8) -> Option<u8>
+    ensures { result ≡ pick (eqb (sign_of (b ∷ []) marks) 0) None (Some (sign_of (b ∷ []) marks)) }
 {
     match b {
-        b':' => signs::COLON,
-        b'=' => signs::EQUALS,
-        b'[' => signs::BRACKET,
-        b']' => signs::UNBRACKET,
+        b':' => Some(signs::COLON),
+        b'=' => Some(signs::EQUALS),
+        b'[' => Some(signs::BRACKET),
+        b']' => Some(signs::UNBRACKET),
         _ => text_marks::short_mark(b),
     }
 }
@@ -196,12 +176,10 @@ pub fn mark_at(text: &[u8], at: usize) -> Token
 {
     let b = text[at];
     let next = at + 1;
-    let long = text_marks::long_mark(b, byte_at(text, next));
-    if long != 0 {
+    if let Some(long) = text_marks::long_mark(b, byte_at(text, next)) {
         return Token::Sign(at, long, at + 2);
     }
-    let short = short_sign(b);
-    if short != 0 {
+    if let Some(short) = short_sign(b) {
         return Token::Sign(at, short, next);
     }
     Token::Sign(at, signs::STRAY, at)

@@ -3,6 +3,7 @@
 use Rattle.lib_base.proofs.Prelude.{ℕ, ◌≤◌, ◌<◌, ◌+◌, ◌-◌, suc, zero, ◌≡◌, refl, ◌∙◌, ◌≢◌, by_cases, List, length, get_or}
 use Rattle.lib_base.proofs.Prelude.{drop, length-set, set, replicate, get_or-set_other, get_or-set_same, eqb, ltb, dec_lt}
 use Rattle.lib_base.proofs.Prelude.{ℕ_discrete, ltb-false, arith}
+use Rattle.std.specs.Prelude.{min}
 use Rattle.lib_base.proofs.Tools.{split}
 use Rattle.sheet_walk.specs.Fields.{after_field, cells_in_front}
 use Rattle.source_walk.specs.Fields.{first_cell}
@@ -69,11 +70,7 @@ filling_on {a} {b} {j} {n} {i} u h g = record {
   behind = λ k l. get_or-set_other b i k j 0 (omega arith) ∙ u.behind k (omega arith);
 }
 
-pub filling_stops : {a b : List ℕ} {j n i : ℕ} → Filling a b j n i → j + n ≤ i → CellsNoted a b j n
-filling_stops {a} {b} {j} {n} {i} u h =
-    record { as_long = u.as_long; cells = λ k l m z. u.noted k l (omega arith); before = u.before; behind = λ k l. u.behind k (omega (arith, u.to)) }
-
-pub filling_ends : {a b : List ℕ} {j n i : ℕ} → Filling a b j n i → 256 ≤ i → CellsNoted a b j n
+pub filling_ends : {a b : List ℕ} {j n i : ℕ} → Filling a b j n i → i ≡ min 256 (j + n) → CellsNoted a b j n
 filling_ends {a} {b} {j} {n} {i} u h =
     record { as_long = u.as_long; cells = λ k l m z. u.noted k l (omega arith); before = u.before; behind = λ k l. u.behind k (omega (arith, u.to)) }
 
@@ -86,15 +83,6 @@ pub record Heading (s : List ℕ) (first : ℕ) (heads : List ℕ) (at j left : 
   pub inside : at ≤ length s
   pub few : j ≤ 510
 
-pub heading_start : {s : List ℕ} {first : ℕ} {heads : List ℕ} → OwnFrom heads 0 → first ≤ length s → Heading s first heads first 0 (length s)
-heading_start {s} {first} {heads} o h = record {
-  own = o;
-  passed = λ i l m. absurd (omega arith);
-  rest = λ i l. record { whole = refl; inside = h; below = l };
-  inside = h;
-  few = omega arith;
-}
-
 pub heading_on : {s : List ℕ} {first : ℕ} {a b : List ℕ} {at j left x y : ℕ} → Heading s first a at j left → 0 < left → at ≢ length s → j ≤ 255
     → x ≡ cells_in_front (drop at s) → x ≤ 255 → CellsNoted a b j x → drop y s ≡ after_field (drop at s) → y ≤ length s → Heading s first b y (j + x) (left - 1)
 heading_on {s} {first} {a} {b} {at} {j} {left} {x} {y} u h n f e r c d l = record {
@@ -106,9 +94,6 @@ heading_on {s} {first} {a} {b} {at} {j} {left} {x} {y} u h n f e r c d l = recor
   inside = l;
   few = omega arith;
 }
-
-pub heading_full : {s : List ℕ} {first : ℕ} {heads : List ℕ} {at j left : ℕ} → Heading s first heads at j left → 255 < j → HeadsOf s first heads
-heading_full {s} {first} {heads} {at} {j} {left} u h = record { each = λ i l. u.passed i (omega arith) l }
 
 pub heading_stops : {s : List ℕ} {first : ℕ} {heads : List ℕ} {at j left : ℕ} → Heading s first heads at j left → 0 < left → at ≡ length s → HeadsOf s first heads
 heading_stops {s} {first} {heads} {at} {j} {left} u h n = record {

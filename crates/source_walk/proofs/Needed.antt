@@ -1,6 +1,6 @@
 -- The parameters counted over the bytes of behaviours are those that the behaviours need. By induction on the sheet:
 -- the count goes from tag to tag.
-use Rattle.lib_base.proofs.Prelude.{ℕ, ◌+◌, suc, ◌%◌, ◌/◌, max, ◌≡◌, refl, ◌∙◌, ap, Option, some, none, List, [], ◌∷◌}
+use Rattle.lib_base.proofs.Prelude.{ℕ, ◌+◌, suc, ◌%◌, ◌/◌, max, ◌≡◌, refl, ◌∙◌, ap, add-one, Option, some, none, List, [], ◌∷◌}
 use Rattle.lib_base.proofs.Prelude.{◌++◌, append_assoc, length, ltb, ltb-false, ltb-true, arith}
 use Rattle.lib_base.specs.Basics.{pick}
 use Rattle.lib_base.proofs.Tools.{by_test}
@@ -13,6 +13,9 @@ use Rattle.source_walk.specs.Fields.{needed_after, needed_in}
 one_more : (n b : ℕ) → pick (ltb n (b + 1)) (b + 1) n ≡ max n (suc b)
 one_more n b =
     by_test (λ (x : ℕ). x ≡ max n (suc b)) (ltb n (b + 1)) (λ e. omega (arith, ltb-true n (b + 1) e)) (λ e. omega (arith, ltb-false n (b + 1) e))
+
+pub most_needed : (n b : ℕ) → max n (b + 1) ≡ pick (ltb n (b + 1)) (b + 1) n
+most_needed n b = rw (one_more n b, add-one b) refl
 
 none_more : (n : ℕ) → n ≡ max n 0
 none_more n = omega arith

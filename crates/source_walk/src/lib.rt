@@ -14,34 +14,24 @@ use sheet_field::tags;
 // How many numbers a byte can be.
 pub const BYTE: usize = sheet_field::sizes::HIGH;
 
-// The highest number that a byte names.
-const LAST_NUMBER: usize = BYTE - 1;
-
 // Each behaviour as the first cell of its own field.
 fn own_heads() -> [u8; BYTE]
     ensures { OwnFrom result 0 }
 {
     let mut heads = [0u8; BYTE];
-    let mut i = 0usize;
-    while i < BYTE {
+    for i in 0..BYTE {
         heads[i] = i as u8;
-        i += 1;
     }
     heads
 }
 
 // Notes j as the first cell of the n behaviours from j on.
 fn note_cells(heads: &mut [u8; BYTE], j: usize, n: usize)
-    requires { (j < byte_values) × (n ≤ highest_byte) × (length heads.old ≡ byte_values) }
+    requires { (j < byte_values) × (n ≤ highest_byte) }
     ensures { CellsNoted heads.old heads.new j n }
 {
-    let mut i = j;
-    while i < BYTE {
-        if j + n <= i {
-            return;
-        }
+    for i in j..BYTE.min(j + n) {
         heads[i] = j as u8;
-        i += 1;
     }
 }
 
@@ -53,19 +43,17 @@ pub fn heads_from(s: &[u8], first: usize) -> [u8; BYTE]
     let mut heads = own_heads();
     let mut at = first;
     let mut j = 0usize;
-    let mut left = s.len();
-    while 0 < left {
+    for _ in 0..s.len() {
         if at == s.len() {
             return heads;
         }
-        if LAST_NUMBER < j {
+        if BYTE <= j {
             return heads;
         }
         let n = sheet_walk::cells_at(s, at);
         note_cells(&mut heads, j, n);
         j += n;
         at = sheet_walk::after_field(s, at);
-        left -= 1;
     }
     heads
 }
@@ -77,10 +65,7 @@ fn needed_after(tag: u8, left: usize, n: usize, b: u8) -> usize
     ensures upper_bound { result ≤ byte_values }
 {
     if sheet_walk::is_number(tags::PARAMETER, tag, left) {
-        if n < (b as usize) + 1 {
-            return (b as usize) + 1;
-        }
-        return n;
+        return n.max((b as usize) + 1);
     }
     n
 }
@@ -91,16 +76,13 @@ pub fn needed_from(s: &[u8], first: usize) -> usize
     ensures value { result ≡ needed_in 0 0 0 (drop first s.now) }
     ensures upper_bound { result ≤ byte_values }
 {
-    let mut at = first;
     let mut tag = 0u8;
     let mut left = 0usize;
     let mut n = 0usize;
-    while at < s.len() {
-        let b = s[at];
-        n = needed_after(tag, left, n, b);
-        tag = sheet_walk::tag_after(tag, left, b);
-        left = sheet_walk::left_after(left, b);
-        at += 1;
+    for i in first..s.len() {
+        n = needed_after(tag, left, n, s[i]);
+        tag = sheet_walk::tag_after(tag, left, s[i]);
+        left = sheet_walk::left_after(left, s[i]);
     }
     n
 }

@@ -4,7 +4,7 @@
 -- under an event and under none; rows written out; and each limit of a sheet, reached and passed by one.
 use Rattle.lib_base.proofs.Prelude.{ℕ, ◌≤◌, ◌<◌, ◌-◌, suc, zero, ◌^◌, ◌≡◌, refl, sym, ap, subst, true, false, Bool}
 use Rattle.lib_base.proofs.Prelude.{◌||◌, false≢true, true≢false, ◌≢◌, Option, some, none, List, [], ◌∷◌, flat_map, sum}
-use Rattle.lib_base.proofs.Prelude.{flatten, length, eqb, eqb-true, arith}
+use Rattle.lib_base.proofs.Prelude.{flatten, length, map, eqb, eqb-true, arith}
 use Rattle.lib_base.specs.Basics.{All}
 use Rattle.lib_signature.proofs.Laws.{two_is, is_two}
 use Rattle.spec_language.specs.Syntax.{Expr, con, name, app2, app3, Phase, immediate, later, handler, passive, active, Program}
@@ -16,6 +16,8 @@ use Rattle.spec_language.specs.Sheet.{Term, literal, variable, param, apply1, ap
 use Rattle.spec_language.specs.Grammar.{Arity, unary, binary, TermFits, t_literal, t_variable, t_param, t_apply1, ClausesFit, ItemFits, SignalFits, EntryFits, SheetFits, encode}
 use Rattle.spec_language.specs.Accepted.{NamesIn, Known, SheetAccepted}
 use Rattle.spec_language.specs.Refusals as refusals
+use Rattle.spec_language.specs.Numbers.{refusal_number}
+use Rattle.spec_language.specs.declared.refusals.Refusal.TheVariants.{ShortTable, LongSheet, Torn, WrongTag, WrongLength, Crowded, OffScale, TooDeep, Doubled, UnknownName, Cycle, Overlong, Foreign, UndeclaredEvent, FullQueue, Spent, NoBehaviour, Settling, NoParameters, NoFormula, LargeNumber, ShortField, NoPlayer, NoRight, UnlikeRanks, ShortJoin, UndeclaredInHand, MissingEntries, TakenBefore}
 use Rattle.spec_language.specs.Answers as answers
 
 -- ---- the code of S: "b0 = init 1 {0 ⇒ b0 + b1}; b1 = init 1 {0 ⇒ b0 − b1 later, 1 ⇒ 1}"
@@ -158,6 +160,16 @@ pub numbers_of_refusals :
     × (refusals.large_number ∷ refusals.short_field ∷ refusals.no_player ∷ refusals.no_right ∷ refusals.unlike_ranks ∷ [] ≡ 22 ∷ 23 ∷ 24 ∷ 25 ∷ 26 ∷ [])
     × (refusals.short_join ∷ refusals.undeclared_in_hand ∷ refusals.missing_entries ∷ refusals.taken_before ∷ [] ≡ 27 ∷ 28 ∷ 43 ∷ 44 ∷ [])
 numbers_of_refusals = (refl, refl, refl, refl, refl, refl)
+
+-- and of the code's cases, in the same order
+pub numbers_of_cases :
+    (map refusal_number (ShortTable ∷ LongSheet ∷ Torn ∷ WrongTag ∷ WrongLength ∷ []) ≡ 1 ∷ 3 ∷ 4 ∷ 5 ∷ 6 ∷ [])
+    × (map refusal_number (Crowded ∷ OffScale ∷ TooDeep ∷ Doubled ∷ UnknownName ∷ []) ≡ 7 ∷ 8 ∷ 9 ∷ 10 ∷ 11 ∷ [])
+    × (map refusal_number (Cycle ∷ Overlong ∷ Foreign ∷ UndeclaredEvent ∷ FullQueue ∷ []) ≡ 12 ∷ 13 ∷ 14 ∷ 15 ∷ 16 ∷ [])
+    × (map refusal_number (Spent ∷ NoBehaviour ∷ Settling ∷ NoParameters ∷ NoFormula ∷ []) ≡ 17 ∷ 18 ∷ 19 ∷ 20 ∷ 21 ∷ [])
+    × (map refusal_number (LargeNumber ∷ ShortField ∷ NoPlayer ∷ NoRight ∷ UnlikeRanks ∷ []) ≡ 22 ∷ 23 ∷ 24 ∷ 25 ∷ 26 ∷ [])
+    × (map refusal_number (ShortJoin ∷ UndeclaredInHand ∷ MissingEntries ∷ TakenBefore ∷ []) ≡ 27 ∷ 28 ∷ 43 ∷ 44 ∷ [])
+numbers_of_cases = (refl, refl, refl, refl, refl, refl)
 
 -- a step's answers, in the order of 01's sentence and of engine.h
 pub numbers_of_answers : answers.idle ∷ answers.ran ∷ answers.started ∷ answers.committed ∷ answers.preempted ∷ [] ≡ 0 ∷ 1 ∷ 2 ∷ 3 ∷ 4 ∷ []

@@ -12,3 +12,4 @@ pub mod Code
 pub mod Accepted
 pub mod Valid
 pub mod Limits
+pub mod Numbers

@@ -1,5 +1,5 @@
 // The kinds of a step's answer (specs/Answers.antt has their words), for the code.
-use crate::refusals;
+use crate::refusals::Refusal;
 
 pub const IDLE: u64 = 0;
 
@@ -22,28 +22,28 @@ pub const OVER: u64 = 72057594037927936;
 // How much more than its value an answer is that carries one: 2 ^ 32.
 pub const VALUE: u64 = 4294967296;
 // The refusals where an answer has 64 bits (src/refusals.rt).
-pub const CYCLE: u64 = refusals::CYCLE as u64;
+pub const CYCLE: u64 = Refusal::Cycle as u64;
 
-pub const FOREIGN: u64 = refusals::FOREIGN as u64;
+pub const FOREIGN: u64 = Refusal::Foreign as u64;
 
-pub const LARGE_NUMBER: u64 = refusals::LARGE_NUMBER as u64;
+pub const LARGE_NUMBER: u64 = Refusal::LargeNumber as u64;
 
-pub const NO_BEHAVIOUR: u64 = refusals::NO_BEHAVIOUR as u64;
+pub const NO_BEHAVIOUR: u64 = Refusal::NoBehaviour as u64;
 
-pub const NO_FORMULA: u64 = refusals::NO_FORMULA as u64;
+pub const NO_FORMULA: u64 = Refusal::NoFormula as u64;
 
-pub const NO_PLAYER: u64 = refusals::NO_PLAYER as u64;
+pub const NO_PLAYER: u64 = Refusal::NoPlayer as u64;
 
-pub const NO_RIGHT: u64 = refusals::NO_RIGHT as u64;
+pub const NO_RIGHT: u64 = Refusal::NoRight as u64;
 
-pub const SETTLING: u64 = refusals::SETTLING as u64;
+pub const SETTLING: u64 = Refusal::Settling as u64;
 
-pub const SHORT_FIELD: u64 = refusals::SHORT_FIELD as u64;
+pub const SHORT_FIELD: u64 = Refusal::ShortField as u64;
 
-pub const SHORT_JOIN: u64 = refusals::SHORT_JOIN as u64;
+pub const SHORT_JOIN: u64 = Refusal::ShortJoin as u64;
 
-pub const TOO_DEEP: u64 = refusals::TOO_DEEP as u64;
+pub const TOO_DEEP: u64 = Refusal::TooDeep as u64;
 
-pub const UNDECLARED_EVENT: u64 = refusals::UNDECLARED_EVENT as u64;
+pub const UNDECLARED_EVENT: u64 = Refusal::UndeclaredEvent as u64;
 
-pub const UNLIKE_RANKS: u64 = refusals::UNLIKE_RANKS as u64;
+pub const UNLIKE_RANKS: u64 = Refusal::UnlikeRanks as u64;

@@ -1,58 +1,92 @@
-// The numbers of refusals (specs/Refusals.antt has their words), for the code.
-pub const SHORT_TABLE: u32 = 1;
+// Why a call was turned down: a case for each, with the number that 01 and 02 give it (specs/Numbers.antt;
+// specs/Refusals.antt has the papers' words).
+ghost use Rattle.std.specs.Prelude.{◌≡◌};
+ghost use Rattle.spec_language.specs.Numbers.{refusal_number};
 
-pub const LONG_SHEET: u32 = 3;
+#[derive(Clone, Copy, PartialEq, Eq, Debug, Drop)]
+pub enum Refusal {
+    ShortTable = 1,
+    LongSheet = 3,
+    Torn = 4,
+    WrongTag = 5,
+    WrongLength = 6,
+    Crowded = 7,
+    OffScale = 8,
+    TooDeep = 9,
+    Doubled = 10,
+    UnknownName = 11,
+    Cycle = 12,
+    Overlong = 13,
+    Foreign = 14,
+    UndeclaredEvent = 15,
+    FullQueue = 16,
+    Spent = 17,
+    NoBehaviour = 18,
+    Settling = 19,
+    NoParameters = 20,
+    NoFormula = 21,
+    LargeNumber = 22,
+    ShortField = 23,
+    NoPlayer = 24,
+    NoRight = 25,
+    UnlikeRanks = 26,
+    ShortJoin = 27,
+    UndeclaredInHand = 28,
+    MissingEntries = 43,
+    TakenBefore = 44,
+}
 
-pub const TORN: u32 = 4;
+impl Refusal {
+    // The number that the papers give it: what a call answers.
+    pub fn number(self) -> u32
+        ensures { result ≡ refusal_number self }
+    {
+        self as u32
+    }
+}
 
-pub const WRONG_TAG: u32 = 5;
+// A call's own answer is the number: `?` and `.into()` go through it.
+impl From<Refusal> for u32 {
+    ghost from_gives = { λ r n. n ≡ refusal_number r };
 
-pub const WRONG_LENGTH: u32 = 6;
+    fn from(r: Refusal) -> u32 {
+        r.number()
+    }
+}
 
-pub const CROWDED: u32 = 7;
+// The numbers alone, for the calls that answer words.
+pub const SHORT_TABLE: u32 = Refusal::ShortTable as u32;
 
-pub const OFF_SCALE: u32 = 8;
+pub const LONG_SHEET: u32 = Refusal::LongSheet as u32;
 
-pub const TOO_DEEP: u32 = 9;
+pub const TORN: u32 = Refusal::Torn as u32;
 
-pub const DOUBLED: u32 = 10;
+pub const WRONG_LENGTH: u32 = Refusal::WrongLength as u32;
 
-pub const UNKNOWN_NAME: u32 = 11;
+pub const UNKNOWN_NAME: u32 = Refusal::UnknownName as u32;
 
-pub const CYCLE: u32 = 12;
+pub const CYCLE: u32 = Refusal::Cycle as u32;
 
-pub const OVERLONG: u32 = 13;
+pub const OVERLONG: u32 = Refusal::Overlong as u32;
 
-pub const FOREIGN: u32 = 14;
+pub const FOREIGN: u32 = Refusal::Foreign as u32;
 
-pub const UNDECLARED_EVENT: u32 = 15;
+pub const UNDECLARED_EVENT: u32 = Refusal::UndeclaredEvent as u32;
 
-pub const FULL_QUEUE: u32 = 16;
+pub const FULL_QUEUE: u32 = Refusal::FullQueue as u32;
 
-pub const SPENT: u32 = 17;
+pub const SPENT: u32 = Refusal::Spent as u32;
 
-pub const NO_BEHAVIOUR: u32 = 18;
+pub const SETTLING: u32 = Refusal::Settling as u32;
 
-pub const SETTLING: u32 = 19;
+pub const NO_PARAMETERS: u32 = Refusal::NoParameters as u32;
 
-pub const NO_PARAMETERS: u32 = 20;
+pub const NO_PLAYER: u32 = Refusal::NoPlayer as u32;
 
-pub const NO_FORMULA: u32 = 21;
+pub const NO_RIGHT: u32 = Refusal::NoRight as u32;
 
-pub const LARGE_NUMBER: u32 = 22;
+pub const UNDECLARED_IN_HAND: u32 = Refusal::UndeclaredInHand as u32;
 
-pub const SHORT_FIELD: u32 = 23;
+pub const MISSING_ENTRIES: u32 = Refusal::MissingEntries as u32;
 
-pub const NO_PLAYER: u32 = 24;
-
-pub const NO_RIGHT: u32 = 25;
-
-pub const UNLIKE_RANKS: u32 = 26;
-
-pub const SHORT_JOIN: u32 = 27;
-
-pub const UNDECLARED_IN_HAND: u32 = 28;
-
-pub const MISSING_ENTRIES: u32 = 43;
-
-pub const TAKEN_BEFORE: u32 = 44;
+pub const TAKEN_BEFORE: u32 = Refusal::TakenBefore as u32;

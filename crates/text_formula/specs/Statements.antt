@@ -1,5 +1,5 @@
 -- What is said of a formula's answer: 02, M-105.
-use Rattle.std.specs.Prelude.{ℕ, ◌<◌, ◌+◌, ◌≤◌, ◌≡◌, List, ◌++◌, length, drop}
+use Rattle.std.specs.Prelude.{ℕ, ◌<◌, ◌≤◌, ◌≡◌, List, ◌++◌, length, drop}
 use Rattle.spec_language.specs.Syntax.{Expr}
 use Rattle.spec_language.specs.Sheet.{fill_term, as_sent}
 use Rattle.spec_language.specs.Grammar.{TermFits}

@@ -1,4 +1,4 @@
-// Formulas as texts and what they answer (02, M-105): definitions in specs/; the numbers of tokens, for the code, here.
+// Formulas as texts and what they answer (02, M-105): definitions in specs/; the tokens, for the code, here.
 
 #![tactic(auto)]
 

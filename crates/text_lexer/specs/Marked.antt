@@ -1,9 +1,10 @@
--- The token's number of a mark: a function's, or of a bracket or the comma, which are counted from the opening one.
-use Rattle.std.specs.Prelude.{ℕ, ◌+◌, ◌-◌, ltb}
+-- The token of a mark: a bracket, the comma, or a function by its number.
+use Rattle.std.specs.Prelude.{ℕ, eqb}
 use Rattle.lib_base.specs.Basics.{pick}
-use Rattle.text_formula.specs.Tokens.{function, opening}
-use Rattle.text_marks.specs.Marks.{opening_mark}
-use Rattle.text_lexer.specs.Codes.{token_code}
+use Rattle.text_marks.specs.Marks.{opening_mark, closing_mark, comma_mark}
+use Rattle.text_formula.specs.declared.tokens.Token as code
+use Rattle.text_formula.specs.declared.tokens.Token.TheVariants.{Function, Opening, Closing, Comma}
 
-abbrev pub code_of_mark : ℕ → ℕ
-code_of_mark m = pick (ltb m opening_mark) (token_code (function m)) (token_code opening + (m - opening_mark))
+abbrev pub code_of_mark : ℕ → code.Token
+code_of_mark m =
+    pick (eqb m opening_mark) Opening (pick (eqb m closing_mark) Closing (pick (eqb m comma_mark) Comma (Function m)))

@@ -1,141 +1,137 @@
-// The tokens of a formula: a number for each, from left to right, in a lent array.
+// The tokens of a formula, from left to right, in a lent array.
 
 #![tactic(auto)]
 
-ghost use Rattle.std.specs.Prelude.{◌≡◌, ◌<◌, ◌≤◌, length, drop};
-ghost use Rattle.text_formula.specs.Reader.{name_of, marked_of, word_token, first_of};
+ghost use Rattle.std.specs.Prelude.{◌≡◌, ◌<◌, ◌≤◌, None, length, drop};
+ghost use Rattle.text_formula.specs.Reader.{digit_of, name_of, marked_of, word_token, first_of};
 ghost use Rattle.text_lexer.specs.Codes.{found};
 ghost use Rattle.text_lexer.specs.Marked.{code_of_mark};
 ghost use Rattle.text_lexer.specs.Scanned.{Narrow, Scanned, Scans};
 ghost use Rattle.spec_language.specs.Limits.{formula_bytes};
 
-use text_formula::tokens;
-use text_marks::{NO_DIGIT, byte_at, digit_of, marks};
+use lib_signature::functions;
+use spec_language::limits;
+use text_formula::tokens::{LAST_NAME, TOO_LARGE, Token};
+use text_marks::{byte_at, digit_of, marks};
 
-// The last digit.
-const LAST_DIGIT: u8 = 9;
+const TEN: u8 = 10;
 
-const TEN: u64 = 10;
-
-// What stands at a place of a text: a token's number and how many bytes it takes, or none.
-#[derive(Drop)]
-pub enum Token {
-    Found(u64, usize),
-    Missing,
+// A token, and how many bytes it takes.
+#[derive(Clone, Copy, PartialEq, Eq, Debug, Drop)]
+pub struct Found {
+    pub token: Token,
+    pub bytes: usize,
 }
 
-// All tokens of a text: how many, or none where the text is not made of tokens.
-#[derive(Drop)]
-pub enum Text {
-    Tokens(usize),
-    Outside,
-}
-
-// A name, by the digits after its letter: b0 to b63, without leading zeros.
-fn name_of(x: u8, y: u8, z: u8) -> Token
-    ensures { result ≡ name_of Token.Missing found x y z }
+// A name, by the bytes after its letter: b0 to b63, without leading zeros.
+fn name_of(b: u8, c: u8, d: u8) -> Option<Found>
+    ensures { result ≡ name_of None found (digit_of b) (digit_of c) (digit_of d) }
 {
-    if LAST_DIGIT < x {
-        return Token::Missing;
-    }
-    if LAST_DIGIT < y {
-        return Token::Found(tokens::NAME + (x as u64), 2);
-    }
-    if z < NO_DIGIT {
-        return Token::Missing;
+    let x = digit_of(b)?;
+    let Some(y) = digit_of(c) else {
+        return Some(Found {
+            token: Token::Name(x),
+            bytes: 2,
+        });
+    };
+    if digit_of(d).is_some() {
+        return None;
     }
     if x == 0 {
-        return Token::Missing;
+        return None;
     }
-    let i = (x as u64) * TEN + (y as u64);
-    if tokens::LAST_NAME < i {
-        return Token::Missing;
+    let i = x * TEN + y;
+    if LAST_NAME < i {
+        return None;
     }
-    Token::Found(tokens::NAME + i, 3)
+    Some(Found {
+        token: Token::Name(i),
+        bytes: 3,
+    })
 }
 
-// A mark's number as a token's.
-fn mark_code(mark: u8) -> u64
+// A mark as a token.
+fn mark_token(mark: u8) -> Token
     ensures { result ≡ code_of_mark mark }
 {
-    if mark < marks::OPENING {
-        return tokens::FUNCTION + (mark as u64);
+    match mark {
+        marks::OPENING => Token::Opening,
+        marks::CLOSING => Token::Closing,
+        marks::COMMA => Token::Comma,
+        f => Token::Function(f),
     }
-    tokens::OPENING + ((mark - marks::OPENING) as u64)
 }
 
 // The token that two bytes begin, where it is no name and no number: a mark, the longer one where there is one, or
 // `if`.
-fn marked_of(b: u8, c: u8) -> Token
-    ensures { result ≡ marked_of Token.Missing found b c }
+fn marked_of(b: u8, c: u8) -> Option<Found>
+    ensures { result ≡ marked_of None found b c }
 {
-    let long = text_marks::long_mark(b, c);
-    if long != 0 {
-        return Token::Found(mark_code(long), 2);
+    if let Some(long) = text_marks::long_mark(b, c) {
+        return Some(Found {
+            token: mark_token(long),
+            bytes: 2,
+        });
     }
-    if b == b'i' {
-        if c == b'f' {
-            return Token::Found(tokens::IF, 2);
-        }
-        return Token::Missing;
+    if b == b'i' && c == b'f' {
+        return Some(Found {
+            token: Token::Function(functions::IF),
+            bytes: 2,
+        });
     }
-    let short = text_marks::short_mark(b);
-    if short != 0 {
-        return Token::Found(mark_code(short), 1);
-    }
-    Token::Missing
+    let short = text_marks::short_mark(b)?;
+    Some(Found {
+        token: mark_token(short),
+        bytes: 1,
+    })
 }
 
 // The token at a place that is no number.
-fn word_at(text: &[u8], at: usize) -> Token
+fn word_at(text: &[u8], at: usize) -> Option<Found>
     requires { at < formula_bytes }
-    ensures { result ≡ word_token Token.Missing found (drop at text.now) }
+    ensures { result ≡ word_token None found (drop at text.now) }
 {
     let b = byte_at(text, at);
     let c = byte_at(text, at + 1);
     if b == b'b' {
-        return name_of(
-            digit_of(c),
-            digit_of(byte_at(text, at + 2)),
-            digit_of(byte_at(text, at + 3)),
-        );
+        return name_of(c, byte_at(text, at + 2), byte_at(text, at + 3));
     }
     marked_of(b, c)
 }
 
 // The token at a place.
-fn token_at(text: &[u8], at: usize) -> Token
+fn token_at(text: &[u8], at: usize) -> Option<Found>
     requires text_len_bound { length text.now ≤ formula_bytes }
     requires at_in_bounds { at < length text.now }
     ensures scanned { Scanned text.now at result (first_of (drop at text.now)) }
     ensures narrow { Narrow result }
 {
     if text_marks::is_digit(text[at]) {
-        let n = text_marks::digits_at(text, at, tokens::TOO_LARGE);
-        return Token::Found(tokens::NUMBER + n.value, n.end - at);
+        let n = text_marks::digits_at(text, at, TOO_LARGE);
+        return Some(Found {
+            token: Token::Number(n.value as u32),
+            bytes: n.end - at,
+        });
     }
     word_at(text, at)
 }
 
-// All tokens of a text, spaces passed over.
-pub fn scan(text: &[u8], tokens: &mut [u64]) -> Text
-    requires text_len_bound { length text.now ≤ formula_bytes }
-    requires tokens_len { length tokens.old ≡ formula_bytes }
+// How many tokens a text is made of, spaces passed over; none where it is not made of tokens.
+pub fn scan(text: &[u8], tokens: &mut [Token; limits::FORMULA_BYTES]) -> Option<usize>
+    requires { length text.now ≤ formula_bytes }
     ensures { Scans text.now tokens.new result }
 {
     let mut at = 0;
     let mut n = 0;
     while at < text.len() {
         if text[at] == b' ' {
-            at = at + 1;
+            at += 1;
         } else {
-            let Token::Found(t, w) = token_at(text, at) else {
-                return Text::Outside;
-            };
-            tokens[n] = t;
-            n = n + 1;
-            at = at + w;
+            let found = token_at(text, at)?;
+            tokens[n] = found.token;
+            n += 1;
+            at += found.bytes;
         }
     }
-    Text::Tokens(n)
+    Some(n)
 }

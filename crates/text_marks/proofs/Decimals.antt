@@ -5,7 +5,8 @@ use Rattle.lib_base.proofs.Prelude.{List, [], ◌∷◌, length, get_or, drop, d
 use Rattle.lib_base.proofs.Prelude.{le-ltb, ltb-false, ltb-true, leb-true, arith}
 use Rattle.lib_base.proofs.Tools.{by_test, split}
 use Rattle.text_formula.specs.Tokens.{decimal_value}
-use Rattle.text_marks.specs.Digits.{is_decimal, leading_digits, capped_to}
+use Rattle.std.specs.Prelude.{Some, None}
+use Rattle.text_marks.specs.Digits.{is_decimal, digit_found, leading_digits, capped_to}
 
 -- ---- a digit
 
@@ -15,6 +16,18 @@ decimal_bounds b =
     split (leb 48 b)
     (λ e. rw e (λ h. (leb-true 48 b e, leb-true b 57 h)))
     (λ e. rw e (λ h. absurd (true≢false (sym h))))
+
+pub digit_some : (b d : ℕ) → Some d ≡ digit_found b → (is_decimal b ≡ true) × (d ≡ b - 48)
+unfolding digit_found
+digit_some b d =
+    split (is_decimal b) (λ e. rw e (λ h. (refl, cc)))
+    (λ e. rw e (λ h. let z : ◌≡◌ {A = ℕ} 0 1 = cc in absurd (omega arith)))
+
+pub digit_none : (b : ℕ) → None ≡ digit_found b → is_decimal b ≡ false
+unfolding digit_found
+digit_none b =
+    split (is_decimal b) (λ e. rw e (λ h. let z : ◌≡◌ {A = ℕ} 0 1 = cc in absurd (omega arith)))
+    (λ e. rw e (λ h. refl))
 
 -- ---- a number
 

@@ -1,9 +1,10 @@
 -- The number that a table of spellings gives: only those rows count that pass a test which the word passes.
-use Rattle.lib_base.proofs.Prelude.{ℕ, ◌≡◌, refl, ◌∙◌, sym, ap, true, Bool, false≢true, ◌&&◌, not, List, [], ◌∷◌}
-use Rattle.lib_base.proofs.Prelude.{length, get_or, eqb, ne_eqb, eqb-true}
+use Rattle.lib_base.proofs.Prelude.{ℕ, ◌≡◌, refl, ◌∙◌, sym, ap, true, Bool, false≢true, List, [], ◌∷◌}
+use Rattle.lib_base.proofs.Prelude.{length, eqb, ne_eqb, eqb-true, eqb-false, arith}
 use Rattle.lib_base.specs.Basics.{pick}
 use Rattle.lib_base.proofs.Tools.{by_test, split}
-use Rattle.text_marks.specs.Marks.{Lexeme, lexeme, spelled_alike, number_of, formula_marks, formula_mark}
+use Rattle.std.specs.Prelude.{Option, Some, None}
+use Rattle.text_marks.specs.Marks.{Lexeme, lexeme, spelled_alike, number_of, formula_marks, formula_mark, mark_found}
 
 pub bytes_are : (l m : List ℕ) → spelled_alike l m ≡ true → l ≡ m
 unfolding spelled_alike
@@ -45,33 +46,11 @@ none_begins b w (lexeme (c ∷ s) n ∷ rows) h = rw (ne_eqb b c h.0) (none_begi
 
 -- ---- marks of two bytes
 
-second : ℕ → List ℕ → Bool
-second c s = eqb (get_or s 1 1) c
+abbrev of_two_bytes : List ℕ → Bool
+of_two_bytes s = eqb (length s) 2
 
--- with `=` behind it
-pub long_none : (b c : ℕ) → c ≡ 61 → (b ≡ 62 → ⊥) → (b ≡ 60 → ⊥) → (b ≡ 61 → ⊥) → (b ≡ 33 → ⊥) → formula_mark (b ∷ c ∷ []) ≡ 0
-unfolding second kept_rows formula_marks
-long_none b c e h₁ h₂ h₃ h₄ =
-    rw e
-    (kept_numbers (second 61) (b ∷ 61 ∷ []) refl formula_marks
-    ∙ none_begins b (61 ∷ []) (kept_rows (second 61) formula_marks) (h₁, (h₂, (h₃, (h₄, tt)))))
-
--- two different bytes, and two alike
-unlike : List ℕ → Bool
-unlike s = not (eqb (get_or s 0 0) (get_or s 1 0)) && not (eqb (get_or s 1 61) 61)
-
-pub unlike_none : (b c : ℕ) → (c ≡ 61 → ⊥) → (b ≡ c → ⊥) → formula_mark (b ∷ c ∷ []) ≡ 0
-unfolding unlike kept_rows formula_marks number_of
-unlike_none b c h g = kept_numbers unlike (b ∷ c ∷ []) (rw (ne_eqb b c g, ne_eqb c 61 h)) formula_marks
-
-alike : List ℕ → Bool
-alike s = eqb (length s) 2 && not (eqb (get_or s 1 61) 61)
-
-pub alike_none : (b c : ℕ) → (c ≡ 61 → ⊥) → (b ≡ 124 → ⊥) → (b ≡ 38 → ⊥) → formula_mark (b ∷ c ∷ []) ≡ 0
-unfolding alike kept_rows formula_marks
-alike_none b c h h₁ h₂ =
-    kept_numbers alike (b ∷ c ∷ []) (rw (ne_eqb c 61 h)) formula_marks
-    ∙ none_begins b (c ∷ []) (kept_rows alike formula_marks) (h₁, (h₂, tt))
+pub long_none : (b c : ℕ) → NoneBegins b (kept_rows of_two_bytes formula_marks) → formula_mark (b ∷ c ∷ []) ≡ 0
+long_none b c h = kept_numbers of_two_bytes (b ∷ c ∷ []) refl formula_marks ∙ none_begins b (c ∷ []) (kept_rows of_two_bytes formula_marks) h
 
 -- ---- marks of one byte
 
@@ -80,3 +59,20 @@ of_one_byte s = eqb (length s) 1
 
 pub short_none : (b : ℕ) → NoneBegins b (kept_rows of_one_byte formula_marks) → formula_mark (b ∷ []) ≡ 0
 short_none b h = kept_numbers of_one_byte (b ∷ []) refl formula_marks ∙ none_begins b [] (kept_rows of_one_byte formula_marks) h
+
+-- ---- a mark that is found
+
+pub mark_some : (w : List ℕ) {r : Option ℕ} {m : ℕ} → r ≡ mark_found w → r ≡ Some m → (formula_mark w ≡ m) × (m ≡ 0 → ⊥)
+mark_some w {r} {m} p q =
+    let found : mark_found w ≡ Some m = sym p ∙ q in
+    split (eqb (formula_mark w) 0) (λ e. let f = rw e at found in let z : ◌≡◌ {A = ℕ} 0 1 = cc in absurd (omega arith))
+    (λ e.
+    let f = rw e at found in
+    let same : formula_mark w ≡ m = cc in
+    (same, λ z. eqb-false (formula_mark w) 0 e (same ∙ z)))
+
+pub mark_none : (w : List ℕ) {r : Option ℕ} → r ≡ mark_found w → r ≡ None → formula_mark w ≡ 0
+mark_none w {r} p q =
+    let found : mark_found w ≡ None = sym p ∙ q in
+    split (eqb (formula_mark w) 0) (λ e. eqb-true (formula_mark w) 0 e)
+    (λ e. let f = rw e at found in let z : ◌≡◌ {A = ℕ} 0 1 = cc in absurd (omega arith))

@@ -1,5 +1,5 @@
 -- The marks of a formula: two-sided operators and `!` by their functions' numbers, brackets and comma by their own.
-use Rattle.std.specs.Prelude.{ℕ, suc, Bool, true, false, ◌&&◌, List, [], ◌∷◌, ◌++◌, get_or, leb, eqb}
+use Rattle.std.specs.Prelude.{ℕ, suc, Bool, true, false, ◌&&◌, Option, Some, None, List, [], ◌∷◌, ◌++◌, get_or, leb, eqb}
 use Rattle.lib_base.specs.Basics.{pick}
 use Rattle.lib_signature.specs.Signature.{Function, its_spelling, functions}
 
@@ -41,3 +41,7 @@ formula_marks = operator_marks 1 functions ++ (lexeme (40 ∷ []) opening_mark �
 -- the mark that is spelled so; 0 for none
 abbrev pub formula_mark : List ℕ → ℕ
 formula_mark w = number_of w formula_marks
+
+-- the same, where there is one
+abbrev pub mark_found : List ℕ → Option ℕ
+mark_found w = pick (eqb (formula_mark w) 0) None (Some (formula_mark w))

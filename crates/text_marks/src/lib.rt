@@ -4,19 +4,15 @@
 
 ghost use Rattle.std.specs.Prelude.{◌≡◌, [], ◌∷◌, ◌≤◌, ◌*◌, ◌+◌, length, get_or, drop};
 ghost use Rattle.lib_base.specs.Words.{decimal_base, word_values};
-ghost use Rattle.text_formula.specs.Reader.{digit_of};
 ghost use Rattle.text_formula.specs.Tokens.{decimal_value};
-ghost use Rattle.text_marks.specs.Digits.{is_decimal, leading_digits, capped_to};
-ghost use Rattle.text_marks.specs.Marks.{formula_mark};
+ghost use Rattle.text_marks.specs.Digits.{is_decimal, digit_found, leading_digits, capped_to};
+ghost use Rattle.text_marks.specs.Marks.{mark_found};
 
 use lib_signature::functions;
 
 pub mod marks;
 
 const TEN: u64 = 10;
-
-// What stands for the digit of a byte that is none.
-pub const NO_DIGIT: u8 = 10;
 
 // A number as far as it counts, and the place behind its digits.
 #[derive(Drop)]
@@ -29,10 +25,7 @@ pub struct Digits {
 pub fn byte_at(text: &[u8], at: usize) -> u8
     ensures { result ≡ get_or text.now at 0 }
 {
-    if at < text.len() {
-        return text[at];
-    }
-    0
+    text.get(at).copied().unwrap_or(0)
 }
 
 // A decimal digit. Both tests are made, with no branch between them.
@@ -42,17 +35,14 @@ pub fn is_digit(b: u8) -> bool
     (b'0' <= b) & (b <= b'9')
 }
 
-// A digit's number; 10 for another byte.
-pub fn digit_of(b: u8) -> u8
-    ensures { result ≡ digit_of b }
+// A digit's number.
+pub fn digit_of(b: u8) -> Option<u8>
+    ensures { result ≡ digit_found b }
 {
-    if b < b'0' {
-        return NO_DIGIT;
+    if is_digit(b) {
+        return Some(b - b'0');
     }
-    if b'9' < b {
-        return NO_DIGIT;
-    }
-    b - b'0'
+    None
 }
 
 // A number with one more digit, as far as the limit: larger ones are all alike.
@@ -61,11 +51,7 @@ fn with_digit(n: u64, d: u8, limit: u64) -> u64
     requires limit_le_word_values { limit ≤ word_values }
     ensures { result ≡ capped_to limit (n * decimal_base + d) }
 {
-    let m = n * TEN + (d as u64);
-    if m < limit {
-        return m;
-    }
-    limit
+    (n * TEN + (d as u64)).min(limit)
 }
 
 // The number at a place, as far as there are digits.
@@ -77,56 +63,48 @@ pub fn digits_at(text: &[u8], at: usize, limit: u64) -> Digits
     ensures end_value { result.end ≡ at + length (leading_digits (drop at text.now)) }
 {
     let mut n: u64 = 0;
-    let mut i = at;
-    while i < text.len() {
-        let b = text[i];
-        if !is_digit(b) {
+    for i in at..text.len() {
+        let Some(d) = digit_of(text[i]) else {
             return Digits { value: n, end: i };
-        }
-        n = with_digit(n, b - b'0', limit);
-        i = i + 1;
-    }
-    Digits { value: n, end: i }
-}
-
-// The mark of two bytes; 0 for none.
-pub fn long_mark(b: u8, c: u8) -> u8
-    ensures { result ≡ formula_mark (b ∷ c ∷ []) }
-{
-    if c == b'=' {
-        return match b {
-            b'>' => functions::AT_LEAST,
-            b'<' => functions::AT_MOST,
-            b'=' => functions::EQUAL,
-            b'!' => functions::UNEQUAL,
-            _ => 0,
         };
+        n = with_digit(n, d, limit);
     }
-    if b != c {
-        return 0;
-    }
-    match b {
-        b'|' => functions::OR,
-        b'&' => functions::AND,
-        _ => 0,
+    Digits {
+        value: n,
+        end: text.len(),
     }
 }
 
-// The mark of one byte; 0 for none.
-pub fn short_mark(b: u8) -> u8
-    ensures { result ≡ formula_mark (b ∷ []) }
+// The mark of two bytes.
+pub fn long_mark(b: u8, c: u8) -> Option<u8>
+    ensures { result ≡ mark_found (b ∷ c ∷ []) }
+{
+    match (b, c) {
+        (b'>', b'=') => Some(functions::AT_LEAST),
+        (b'<', b'=') => Some(functions::AT_MOST),
+        (b'=', b'=') => Some(functions::EQUAL),
+        (b'!', b'=') => Some(functions::UNEQUAL),
+        (b'|', b'|') => Some(functions::OR),
+        (b'&', b'&') => Some(functions::AND),
+        _ => None,
+    }
+}
+
+// The mark of one byte.
+pub fn short_mark(b: u8) -> Option<u8>
+    ensures { result ≡ mark_found (b ∷ []) }
 {
     match b {
-        b'!' => functions::NOT,
-        b'+' => functions::ADD,
-        b'-' => functions::SUBTRACT,
-        b'*' => functions::MULTIPLY,
-        b'/' => functions::DIVIDE,
-        b'>' => functions::ABOVE,
-        b'<' => functions::BELOW,
-        b'(' => marks::OPENING,
-        b')' => marks::CLOSING,
-        b',' => marks::COMMA,
-        _ => 0,
+        b'!' => Some(functions::NOT),
+        b'+' => Some(functions::ADD),
+        b'-' => Some(functions::SUBTRACT),
+        b'*' => Some(functions::MULTIPLY),
+        b'/' => Some(functions::DIVIDE),
+        b'>' => Some(functions::ABOVE),
+        b'<' => Some(functions::BELOW),
+        b'(' => Some(marks::OPENING),
+        b')' => Some(marks::CLOSING),
+        b',' => Some(marks::COMMA),
+        _ => None,
     }
 }

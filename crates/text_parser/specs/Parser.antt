@@ -1,6 +1,6 @@
 -- What the reader's functions promise: that they read what the definition's functions read (`read_at`), and write its
 -- bytes.
-use Rattle.std.specs.Prelude.{ℕ, suc, ◌+◌, ◌*◌, ◌-◌, ◌≤◌, ◌<◌, ◌≡◌, List, ◌++◌, map, length, take, drop}
+use Rattle.std.specs.Prelude.{ℕ, suc, ◌+◌, ◌*◌, ◌-◌, ◌≤◌, ◌<◌, ◌≡◌, Option, Some, None, List, ◌++◌, map, length, take, drop}
 use Rattle.lib_base.specs.Basics.{All}
 use Rattle.spec_language.specs.Syntax.{Expr, con, name, app1, app2, app3}
 use Rattle.spec_language.specs.Refusals.{no_formula}
@@ -12,8 +12,8 @@ use Rattle.text_formula.specs.Answer.{nesting, formula_field}
 use Rattle.text_formula.specs.Nesting.{deeper}
 use Rattle.text_lexer.specs.Codes.{capped, token_code}
 use Rattle.text_phrase.specs.Phrase.{read_refusal, read_place, read_end, read_depth}
+use Rattle.text_formula.specs.declared.tokens.Token as code
 use Rattle.text_phrase.specs.declared.Read.{Read}
-use Rattle.text_phrase.specs.declared.Read.TheVariants.{Done, Fault}
 
 -- an expression with its numbers as far as they count, and its field
 unfoldable pub bounded : Expr → Expr
@@ -28,7 +28,7 @@ expression_bytes e = formula_field (bounded e)
 
 -- an expression is read up to a place, and its field stands from n to the end; with those before it, nested d deep, it
 -- nests so deep
-pub record ExpressionWritten (ts : List Token) (d n : ℕ) (o p : List ℕ) (r : Read) (e : Expr) (rest : List Token) : Type 0 where
+pub record ExpressionWritten (ts : List Token) (d n : ℕ) (o p : List ℕ) (r : Option Read) (e : Expr) (rest : List Token) : Type 0 where
   pub number : read_refusal r ≡ 0
   pub onward : rest ≡ drop (read_place r) ts
   pub size : read_end r ≡ n + length (expression_bytes e)
@@ -36,35 +36,33 @@ pub record ExpressionWritten (ts : List Token) (d n : ℕ) (o p : List ℕ) (r :
   pub nests : read_depth r ≡ deeper d (nesting e)
 
 -- the answer r, with the bytes p, is what the definition's function reads
-abbrev pub Agrees : List Token → ℕ → ℕ → List ℕ → List ℕ → Read → Parsed → Type 0
+abbrev pub Agrees : List Token → ℕ → ℕ → List ℕ → List ℕ → Option Read → Parsed → Type 0
 Agrees ts d n o p r unparsed = read_refusal r ≡ no_formula
 Agrees ts d n o p r (parsed e rest) = ExpressionWritten ts d n o p r e rest
 
--- for whatever tokens the numbers cs stand for, and any bound that is large enough
-abbrev pub Reading : ℕ → List ℕ → ℕ → ℕ → List ℕ → List ℕ → Read → Type 0
+-- for whatever tokens the code's tokens cs stand for, and any bound that is large enough
+abbrev pub Reading : ℕ → List code.Token → ℕ → ℕ → List ℕ → List ℕ → Option Read → Type 0
 Reading l cs at n o p r =
     (ts : List Token) → All InRange ts → cs ≡ map token_code ts → (k : ℕ) → length cs - at ≤ k → Agrees ts 0 n o p r (read_at l k (drop at ts))
 
-abbrev pub ChoiceRead : List ℕ → ℕ → ℕ → List ℕ → List ℕ → Read → Type 0
+abbrev pub ChoiceRead : List code.Token → ℕ → ℕ → List ℕ → List ℕ → Option Read → Type 0
 ChoiceRead cs at n o p r =
     (ts : List Token) → All InRange ts → cs ≡ map token_code ts → (k : ℕ) → length cs - at ≤ suc k → Agrees ts 0 n o p r (choice_of (read_at 6 k) (drop (at + 1) ts))
 
 -- a reading goes on within the tokens; a token gives at most seven bytes and one level of nesting
-abbrev pub ReadWithin : ℕ → ℕ → ℕ → ℕ → Read → Type 0
-ReadWithin size at n d Fault = Unit {0}
-ReadWithin size at n d (Done to end depth) = (at < to) × (to ≤ size) × (n ≤ end) × (end + at * 7 ≤ n + to * 7) × (depth + at ≤ d + to)
+abbrev pub ReadWithin : ℕ → ℕ → ℕ → ℕ → Option Read → Type 0
+ReadWithin size at n d None = Unit {0}
+ReadWithin size at n d (Some r) = (at < r.at) × (r.at ≤ size) × (n ≤ r.end) × (r.end + at * 7 ≤ n + r.at * 7) × (r.depth + at ≤ d + r.at)
 
 -- a formula's tokens, and a buffer for the largest field that they may give
-abbrev pub FieldRoom : List ℕ → List ℕ → Type 0
+abbrev pub FieldRoom : List code.Token → List ℕ → Type 0
 FieldRoom cs out = (length cs ≤ formula_bytes) × (length out ≡ field_bytes)
 
 abbrev pub ArgumentIn : Read → Type 0
-ArgumentIn Fault = Unit {0}
-ArgumentIn (Done at n d) = (n ≤ at * 7) × (d ≤ at)
+ArgumentIn r = (r.end ≤ r.at * 7) × (r.depth ≤ r.at)
 
--- an argument after the bracket or comma of number m
-abbrev pub Argued : ℕ → List ℕ → List ℕ → List ℕ → Read → Read → Type 0
-Argued m cs o p Fault q = q ≡ Fault
-Argued m cs o p (Done at n d) q =
-    ((ts : List Token) → All InRange ts → cs ≡ map token_code ts → (k : ℕ) → length cs - at ≤ suc k → Agrees ts d n o p q (past m (read_at 6 k) (drop at ts)))
-    × ReadWithin (length cs) at n d q
+-- an argument after what was read before, and after the bracket or comma of number m
+abbrev pub Argued : ℕ → List code.Token → List ℕ → List ℕ → Read → Option Read → Type 0
+Argued m cs o p r q =
+    ((ts : List Token) → All InRange ts → cs ≡ map token_code ts → (k : ℕ) → length cs - r.at ≤ suc k → Agrees ts r.depth r.end o p q (past m (read_at 6 k) (drop r.at ts)))
+    × ReadWithin (length cs) r.at r.end r.depth q

@@ -1,37 +1,63 @@
 -- A text whose brackets do not match is no formula: in what the grammar derives they match, by induction on the
 -- derivation, whatever stands behind it and however many are open before it (`even_derived`).
-use Rattle.lib_base.proofs.Prelude.{ℕ, ◌≤◌, ◌<◌, ◌+◌, ◌-◌, ◌≡◌, refl, ◌∙◌, sym, ap, true, false, Bool, true≢false}
+use Rattle.lib_base.proofs.Prelude.{ℕ, zero, suc, ◌≤◌, ◌<◌, ◌+◌, ◌-◌, ◌≡◌, refl, ◌∙◌, sym, ap, true, false, Bool, true≢false}
 use Rattle.lib_base.proofs.Prelude.{List, [], ◌∷◌, ◌++◌, map, append_assoc, append-nil, length, get_or, drop}
 use Rattle.lib_base.proofs.Prelude.{drop_of_length-le, drop-cons, eqb, add-one, ne_eqb, arith}
-use Rattle.lib_base.specs.Basics.{pick, All}
+use Rattle.lib_base.specs.Basics.{pick}
 use Rattle.lib_signature.specs.Numbers.{not_fn, if_fn}
 use Rattle.spec_language.specs.Syntax.{Expr}
 use Rattle.spec_language.specs.Refusals.{no_formula}
 use Rattle.text_formula.specs.Tokens.{Token, number, behaviour, function, opening, closing, comma}
-use Rattle.text_formula.specs.InRange.{InRange}
 use Rattle.text_formula.specs.Grammar.{Derives, tighter, two_sided, negated, a_number, a_name, bracketed, choice}
 use Rattle.text_formula.specs.Reader.{Parsed, unparsed, parsed, wholly, read_at}
 use Rattle.text_formula.specs.Answer.{answered}
 use Rattle.text_formula.specs.Formula.{answer_to}
 use Rattle.text_formula.proofs.Parses.{Sound, reads_only}
-use Rattle.text_lexer.specs.Codes.{capped, token_code}
-use Rattle.text_lexer.proofs.CodeLaws.{capped_most}
+use Rattle.text_formula.specs.declared.tokens.Token as code
+use Rattle.text_formula.specs.declared.tokens.Token.TheVariants.{Number, Name, Function, Opening, Closing, Comma}
+use Rattle.text_lexer.specs.Codes.{token_code}
 use Rattle.text_translate.specs.Translate.{open_after, balanced_from, Translated}
 
--- ---- the loop over the tokens' numbers
+-- ---- the loop over the code's tokens
 
-pub closed_early : (ts : List ℕ) (n i : ℕ) → i < length ts → n ≡ 0 → balanced_from n (drop i ts) ≡ false
+-- one closed too many is never made up for
+pub closed_early : (ts : List code.Token) → balanced_from 0 ts ≡ false
 unfolding balanced_from
-closed_early ts n i h e = rw (drop-cons ts i 0 h, e)
+closed_early [] = refl
+closed_early (t ∷ ts) = refl
 
-pub one_on : (ts : List ℕ) (n i r : ℕ) → i < length ts → (n ≡ 0 → ⊥) → r ≡ open_after n (get_or ts i 0)
-    → balanced_from n (drop i ts) ≡ balanced_from r (drop (i + 1) ts)
-unfolding balanced_from
-one_on ts n i r h e q = rw (drop-cons ts i 0 h, add-one i, ne_eqb n 0 e, q)
+one_more : (n : ℕ) → eqb n 0 ≡ eqb (n + 1) 1
+one_more zero = refl
+one_more (suc n) = rw (ne_eqb (suc n) 0 (omega arith), ne_eqb (suc n + 1) 1 (omega arith))
 
-pub all_passed : (ts : List ℕ) (n i : ℕ) → length ts ≤ i → balanced_from n (drop i ts) ≡ eqb n 1
+pub all_passed : (ts : List code.Token) (n i : ℕ) → length ts ≤ i → eqb n 0 ≡ balanced_from (n + 1) (drop i ts)
 unfolding balanced_from
-all_passed ts n i h = rw (drop_of_length-le ts h)
+all_passed ts n i h = rw (drop_of_length-le ts h) (one_more n)
+
+module _ (ts : List code.Token) (n i : ℕ) (d : code.Token) (h : i < length ts) where
+  one_on : balanced_from (n + 1) (drop i ts) ≡ balanced_from (open_after (n + 1) (get_or ts i d)) (drop (i + 1) ts)
+  unfolding balanced_from
+  one_on = rw (drop-cons ts i d h, add-one i, ne_eqb (n + 1) 0 (omega arith))
+
+  pub one_early : get_or ts i d ≡ Closing → n ≡ 0 → false ≡ balanced_from (n + 1) (drop i ts)
+  one_early e z = sym (one_on ∙ rw (e, z) (closed_early (drop (i + 1) ts)))
+
+  pub one_opens : get_or ts i d ≡ Opening → balanced_from (n + 1 + 1) (drop (i + 1) ts) ≡ balanced_from (n + 1) (drop i ts)
+  one_opens e = sym (one_on ∙ rw e)
+
+  pub one_closes : get_or ts i d ≡ Closing → (n ≡ 0 → ⊥) → balanced_from (n - 1 + 1) (drop (i + 1) ts) ≡ balanced_from (n + 1) (drop i ts)
+  one_closes e z = sym (one_on ∙ rw e (ap (λ (m : ℕ). balanced_from m (drop (i + 1) ts)) (omega arith)))
+
+  pub one_other : (get_or ts i d ≡ Opening → ⊥) → (get_or ts i d ≡ Closing → ⊥) → balanced_from (n + 1) (drop (i + 1) ts) ≡ balanced_from (n + 1) (drop i ts)
+  one_other o c = sym (one_on ∙ ap (λ (m : ℕ). balanced_from m (drop (i + 1) ts)) (stays (get_or ts i d) o c))
+    where
+      stays : (t : code.Token) → (t ≡ Opening → ⊥) → (t ≡ Closing → ⊥) → open_after (n + 1) t ≡ n + 1
+      stays (Number v) o c = refl
+      stays (Name j) o c = refl
+      stays (Function f) o c = refl
+      stays Opening o c = absurd (o refl)
+      stays Closing o c = absurd (c refl)
+      stays Comma o c = refl
 
 -- ---- by tokens
 
@@ -47,21 +73,19 @@ even_from : ℕ → List Token → Bool
 even_from n [] = eqb n 1
 even_from n (t ∷ ts) = pick (eqb n 0) false (even_from (opens n t) ts)
 
-opens_code : (n : ℕ) (t : Token) → InRange t → open_after n (token_code t) ≡ opens n t
-unfolding open_after opens
-opens_code n (number m) h =
-    let l = capped_most m in
-    rw (ne_eqb (68719476736 + capped m) 81604378625 (omega arith), ne_eqb (68719476736 + capped m) 81604378626 (omega arith))
-opens_code n (behaviour i) h = rw (ne_eqb (73014444032 + i) 81604378625 (omega arith), ne_eqb (73014444032 + i) 81604378626 (omega arith))
-opens_code n (function f) h = rw (ne_eqb (77309411328 + f) 81604378625 (omega arith), ne_eqb (77309411328 + f) 81604378626 (omega arith))
-opens_code n opening h = refl
-opens_code n closing h = refl
-opens_code n comma h = refl
+opens_code : (n : ℕ) (t : Token) → open_after n (token_code t) ≡ opens n t
+unfolding opens
+opens_code n (number m) = refl
+opens_code n (behaviour i) = refl
+opens_code n (function f) = refl
+opens_code n opening = refl
+opens_code n closing = refl
+opens_code n comma = refl
 
-even_codes : (n : ℕ) (ts : List Token) → All InRange ts → balanced_from n (map token_code ts) ≡ even_from n ts
+even_codes : (n : ℕ) (ts : List Token) → balanced_from n (map token_code ts) ≡ even_from n ts
 unfolding balanced_from even_from
-even_codes n [] h = refl
-even_codes n (t ∷ ts) h = rw (opens_code n t h.0, even_codes (opens n t) ts h.1)
+even_codes n [] = refl
+even_codes n (t ∷ ts) = rw (opens_code n t, even_codes (opens n t) ts)
 
 -- ---- what is derived is balanced
 
@@ -111,7 +135,7 @@ uneven buffer ts (parsed e []) s h =
     absurd (true≢false (sym b ∙ h))
 uneven buffer ts (parsed e (t ∷ rest)) s h = refl
 
-pub unbalanced : (cs buffer : List ℕ) (b : Bool) → b ≡ balanced_from 1 cs → b ≡ false → Translated cs buffer (answered no_formula buffer)
+pub unbalanced : (cs : List code.Token) (buffer : List ℕ) (b : Bool) → b ≡ balanced_from 1 cs → b ≡ false → Translated cs buffer (answered no_formula buffer)
 unbalanced cs buffer b e f ts fine x =
     uneven buffer ts (read_at 6 (length ts) ts) (reads_only 6 (length ts) ts)
-    (sym (even_codes 1 ts fine) ∙ ap (balanced_from 1) (sym x) ∙ sym e ∙ f)
+    (sym (even_codes 1 ts) ∙ ap (balanced_from 1) (sym x) ∙ sym e ∙ f)

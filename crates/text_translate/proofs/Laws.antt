@@ -1,15 +1,14 @@
--- That the checks by tokens' numbers are those of the definition: a number among the tokens is too large exactly if one
--- in the expression is, by induction on the derivation; and where none is, the bytes that the reader wrote are the
+-- That the checks by the code's tokens are those of the definition: a number among the tokens is too large exactly if
+-- one in the expression is, by induction on the derivation; and where none is, the bytes that the reader wrote are the
 -- expression's field.
-use Rattle.lib_base.proofs.Prelude.{ℕ, ◌≤◌, ◌<◌, ◌+◌, ◌-◌, ◌%◌, ◌/◌, ◌≡◌, refl, ◌∙◌, sym, ap, true, false, Bool, some}
-use Rattle.lib_base.proofs.Prelude.{none, List, [], ◌∷◌, ◌++◌, map, append-nil, length, get_or, take, drop, length-drop}
-use Rattle.lib_base.proofs.Prelude.{drop_of_length-le, length-map, drop-cons, take-length, ltb, add-one, le-ltb, lt-ltb}
+use Rattle.lib_base.proofs.Prelude.{ℕ, ◌≤◌, ◌<◌, ◌+◌, ◌≡◌, refl, ◌∙◌, sym, ap, true, false, Bool, ◌||◌}
+use Rattle.lib_base.proofs.Prelude.{List, [], ◌∷◌, ◌++◌, map, append-nil, length, take, drop, length-drop}
+use Rattle.lib_base.proofs.Prelude.{drop_of_length-le, length-map, take-length, ltb, le-ltb, lt-ltb}
 use Rattle.lib_base.proofs.Prelude.{ltb-false, arith}
-use Rattle.lib_base.specs.Basics.{pick, All}
+use Rattle.lib_base.specs.Basics.{pick}
 use Rattle.lib_base.proofs.Tools.{by_test, neither}
 use Rattle.spec_language.specs.Syntax.{Expr, con, name, app1, app2, app3}
 use Rattle.text_formula.specs.Tokens.{Token, number, behaviour, function, opening, closing, comma}
-use Rattle.text_formula.specs.InRange.{InRange}
 use Rattle.text_formula.specs.Grammar.{Derives, tighter, two_sided, negated, a_number, a_name, bracketed, choice}
 use Rattle.text_formula.specs.Reader.{Parsed, unparsed, parsed, wholly, read_at, tokens_of, read_formula}
 use Rattle.spec_language.specs.Refusals.{no_formula}
@@ -19,26 +18,13 @@ use Rattle.text_formula.proofs.Deeper.{deeper_none}
 use Rattle.text_formula.proofs.Scans.{Made, scans_only, tokens_fine}
 use Rattle.text_formula.proofs.Parses.{Sound, reads_only}
 use Rattle.text_lexer.specs.Codes.{capped, token_code}
-use Rattle.text_lexer.proofs.CodeLaws.{capped_most}
 use Rattle.text_lexer.proofs.Laws.{TokensHeld}
+use Rattle.std.specs.Prelude.{Option, Some}
+use Rattle.std.proofs.Math.Option.{some, none}
+use Rattle.text_formula.specs.declared.tokens.Token as code
 use Rattle.text_phrase.specs.declared.Read.{Read}
-use Rattle.text_phrase.specs.declared.Read.TheVariants.{Done, Fault}
 use Rattle.text_parser.specs.Parser.{bounded, expression_bytes, Agrees, Reading}
 use Rattle.text_translate.specs.Translate.{large_code, any_large, delivered, Translated}
-
--- ---- the loop over the tokens' numbers
-
-pub large_here : (ts : List ℕ) (i : ℕ) (b : Bool) → i < length ts → b ≡ large_code (get_or ts i 0) → b ≡ true → any_large (drop i ts) ≡ true
-unfolding any_large
-large_here ts i b h e t = rw (drop-cons ts i 0 h, ← e, t)
-
-pub large_on : (ts : List ℕ) (i : ℕ) (b : Bool) → i < length ts → b ≡ large_code (get_or ts i 0) → b ≡ false → any_large (drop i ts) ≡ any_large (drop (i + 1) ts)
-unfolding any_large
-large_on ts i b h e t = rw (drop-cons ts i 0 h, add-one i, ← e, t)
-
-pub large_none : (ts : List ℕ) (i : ℕ) → length ts ≤ i → any_large (drop i ts) ≡ false
-unfolding any_large
-large_none ts i h = rw (drop_of_length-le ts h)
 
 -- ---- the field is copied
 
@@ -64,22 +50,19 @@ large_tokens (t ∷ ts) = pick (large_token t) true (large_tokens ts)
 capped_large : (n : ℕ) → ltb 2147483647 (capped n) ≡ ltb 2147483647 n
 capped_large n = by_test (λ x. ltb 2147483647 x ≡ ltb 2147483647 n) (ltb n 2147483648) (λ e. refl) (λ e. sym (lt-ltb 2147483647 n (omega (arith, ltb-false n 2147483648 e))))
 
-large_code_law : (t : Token) → InRange t → large_code (token_code t) ≡ large_token t
-unfolding large_code large_token
-large_code_law (number n) h =
-    let q : (68719476736 + capped n) / 4294967296 ≡ 16 = omega (arith, capped_most n) in
-    let r : (68719476736 + capped n) % 4294967296 ≡ capped n = omega (arith, capped_most n) in
-    rw (q, r) (capped_large n)
-large_code_law (behaviour i) h = let q : (73014444032 + i) / 4294967296 ≡ 17 = omega arith in rw q
-large_code_law (function f) h = let q : (77309411328 + f) / 4294967296 ≡ 18 = omega arith in rw q
-large_code_law opening h = refl
-large_code_law closing h = refl
-large_code_law comma h = refl
+large_code_law : (t : Token) → large_code (token_code t) ≡ large_token t
+unfolding large_token
+large_code_law (number n) = capped_large n
+large_code_law (behaviour i) = refl
+large_code_law (function f) = refl
+large_code_law opening = refl
+large_code_law closing = refl
+large_code_law comma = refl
 
-large_codes : (ts : List Token) → All InRange ts → any_large (map token_code ts) ≡ large_tokens ts
-unfolding any_large large_tokens
-large_codes [] h = refl
-large_codes (t ∷ ts) h = rw (large_code_law t h.0, large_codes ts h.1)
+large_codes : (ts : List Token) → any_large (map token_code ts) ≡ large_tokens ts
+unfolding large_tokens
+large_codes [] = refl
+large_codes (t ∷ ts) = rw (large_code_law t, large_codes ts) (by_test (λ x. large_token t || large_tokens ts ≡ x) (large_token t) (λ e. rw e) (λ e. rw e))
 
 large_both : (ts us : List Token) → large_tokens (ts ++ us) ≡ pick (large_tokens ts) true (large_tokens us)
 unfolding large_tokens
@@ -135,46 +118,36 @@ written_is e buffer = refl
 
 -- ---- from the tokens on
 
-module _ (cs o p buffer : List ℕ) (r : Read) (rd : Reading 6 cs 0 0 o p r) where
-  none_read : (ts : List Token) (g : Parsed) → Agrees ts 0 0 o p Fault g → answered no_formula buffer ≡ answer_to (wholly g) buffer
-  none_read ts unparsed a = refl
-  none_read ts (parsed e rest) a = absurd (omega (arith, a.number))
+module _ (cs : List code.Token) (o p buffer : List ℕ) (r : Option Read) (rd : Reading 6 cs 0 0 o p r) where
+  part_read : (ts : List Token) (d : Read) (g : Parsed) → Agrees ts 0 0 o p (Some d) g → d.at < length ts → answered no_formula buffer ≡ answer_to (wholly g) buffer
+  part_read ts d unparsed a h = absurd (omega arith)
+  part_read ts d (parsed e []) a h = let z = length-drop d.at ts in let y : 0 ≡ length (drop d.at ts) = ap length a.onward in absurd (omega arith)
+  part_read ts d (parsed e (t ∷ rest)) a h = refl
 
-  pub read_none : r ≡ Fault → Translated cs buffer (answered no_formula buffer)
-  read_none q ts fine x =
+  pub read_part : (d : Read) → r ≡ Some d → d.at ≤ length cs → (d.at ≡ length cs → ⊥) → Translated cs buffer (answered no_formula buffer)
+  read_part d q h g ts fine x =
       let n : length cs ≡ length ts = ap length x ∙ length-map ts token_code in
-      none_read ts (read_at 6 (length ts) ts) (rw q at (rd ts fine x (length ts) (omega arith)))
+      part_read ts d (read_at 6 (length ts) ts) (rw q at (rd ts fine x (length ts) (omega arith))) (omega arith)
 
-  part_read : (ts : List Token) (at end depth : ℕ) (g : Parsed) → Agrees ts 0 0 o p (Done at end depth) g → at < length ts → answered no_formula buffer ≡ answer_to (wholly g) buffer
-  part_read ts at end depth unparsed a h = absurd (omega arith)
-  part_read ts at end depth (parsed e []) a h = let z = length-drop at ts in let y : 0 ≡ length (drop at ts) = ap length a.onward in absurd (omega arith)
-  part_read ts at end depth (parsed e (t ∷ rest)) a h = refl
-
-  pub read_part : (at end depth : ℕ) → r ≡ Done at end depth → at ≤ length cs → (at ≡ length cs → ⊥) → Translated cs buffer (answered no_formula buffer)
-  read_part at end depth q h g ts fine x =
-      let n : length cs ≡ length ts = ap length x ∙ length-map ts token_code in
-      part_read ts at end depth (read_at 6 (length ts) ts) (rw q at (rd ts fine x (length ts) (omega arith))) (omega arith)
-
-  whole_read : (ts : List Token) (at end depth : ℕ) (g : Parsed) → Agrees ts 0 0 o p (Done at end depth) g → Sound 6 ts g → length ts ≤ at
-      → delivered (large_tokens ts) depth (take end p) buffer ≡ answer_to (wholly g) buffer
-  whole_read ts at end depth unparsed a s h = absurd (omega arith)
-  whole_read ts at end depth (parsed e []) a s h =
+  whole_read : (ts : List Token) (d : Read) (g : Parsed) → Agrees ts 0 0 o p (Some d) g → Sound 6 ts g → length ts ≤ d.at
+      → delivered (large_tokens ts) d.depth (take d.end p) buffer ≡ answer_to (wholly g) buffer
+  whole_read ts d unparsed a s h = absurd (omega arith)
+  whole_read ts d (parsed e []) a s h =
       let t : ts ≡ s.taken = s.joined ∙ append-nil s.taken in
       let l : large_tokens ts ≡ large e = ap large_tokens t ∙ large_derived s.derived in
-      let d : depth ≡ nesting e = a.nests ∙ deeper_none (nesting e) in
-      rw (l, d, a.written) (unless_large (large e) (nesting e) (expression_bytes e) (formula_field e) buffer (bytes_same e) ∙ written_is e buffer)
-  whole_read ts at end depth (parsed e (t ∷ rest)) a s h =
+      let n : d.depth ≡ nesting e = a.nests ∙ deeper_none (nesting e) in
+      rw (l, n, a.written) (unless_large (large e) (nesting e) (expression_bytes e) (formula_field e) buffer (bytes_same e) ∙ written_is e buffer)
+  whole_read ts d (parsed e (t ∷ rest)) a s h =
       let z : t ∷ rest ≡ [] = a.onward ∙ drop_of_length-le ts h in
       let y : ◌≡◌ {A = ℕ} 0 1 = cc in absurd (omega arith)
 
-  pub read_whole : (at end depth : ℕ) (l : Bool) (answer : ℕ × List ℕ) → r ≡ Done at end depth → at ≡ length cs → l ≡ any_large cs
-      → answer ≡ delivered l depth (take (end - 0) (drop 0 p)) buffer → Translated cs buffer answer
-  read_whole at end depth l answer q h f e ts fine x =
+  pub read_whole : (d : Read) (l : Bool) (answer : ℕ × List ℕ) → r ≡ Some d → d.at ≡ length cs → l ≡ any_large cs
+      → answer ≡ delivered l d.depth (take d.end p) buffer → Translated cs buffer answer
+  read_whole d l answer q h f e ts fine x =
       let n : length cs ≡ length ts = ap length x ∙ length-map ts token_code in
-      let b : l ≡ large_tokens ts = f ∙ ap any_large x ∙ large_codes ts fine in
-      let z : end - 0 ≡ end = omega arith in
-      e ∙ rw (b, z)
-      (whole_read ts at end depth (read_at 6 (length ts) ts) (rw q at (rd ts fine x (length ts) (omega arith))) (reads_only 6 (length ts) ts) (omega arith))
+      let b : l ≡ large_tokens ts = f ∙ ap any_large x ∙ large_codes ts in
+      e ∙ rw b
+      (whole_read ts d (read_at 6 (length ts) ts) (rw q at (rd ts fine x (length ts) (omega arith))) (reads_only 6 (length ts) ts) (omega arith))
 
 -- ---- from the text on
 
@@ -186,10 +159,9 @@ pub no_tokens : (text buffer : List ℕ) → length text ≤ 1024 → tokens_of 
 unfolding formula_on read_formula
 no_tokens text buffer h e = rw (le-ltb 1024 (length text) h, e)
 
-pub from_text : (text buffer numbers : List ℕ) (n : ℕ) (answer : ℕ × List ℕ) → length text ≤ 1024 → TokensHeld text numbers n
-    → Translated (take (n - 0) (drop 0 numbers)) buffer answer → answer ≡ formula_on text buffer
+pub from_text : (text buffer : List ℕ) (tokens : List code.Token) (n : ℕ) (answer : ℕ × List ℕ) → length text ≤ 1024 → TokensHeld text tokens n
+    → Translated (take n tokens) buffer answer → answer ≡ formula_on text buffer
 unfolding formula_on read_formula
-from_text text buffer numbers n answer h s a =
-    let z : n - 0 ≡ n = omega arith in
+from_text text buffer tokens n answer h s a =
     let m : Made text (some s.list) = rw s.all at (scans_only (length text) text) in
-    a s.list (tokens_fine m) (rw z s.numbers) ∙ rw (le-ltb 1024 (length text) h, s.all)
+    a s.list (tokens_fine m) s.numbers ∙ rw (le-ltb 1024 (length text) h, s.all)

@@ -15,11 +15,11 @@ width_spec =
     (search rules)
     (search rules)
     (λ c.
-    (width_none c.args.s.now c.args.i c.field_answer-a.ensures.0 c.in_default.is, omega arith))
+    (width_none c.args.s.now c.args.i c.field_answer.ensures.0 c.in_default.is, omega arith))
     (λ c.
-    omega (arith, width_fits c.args.s.now c.args.i c.requires c.field_answer-a.ensures.1 c.in-Value.is))
+    omega (arith, width_fits c.args.s.now c.args.i c.requires c.field_answer.ensures.1 c.in-Ok.is))
     (λ c.
-    let told = c.in-Value.is in (
-      width_some c.args.s.now c.args.i c.field_answer-a.ensures.0 told,
-      width_fits c.args.s.now c.args.i c.requires c.field_answer-a.ensures.1 told,
+    let told = c.in-Ok.is in (
+      width_some c.args.s.now c.args.i c.field_answer.ensures.0 told,
+      width_fits c.args.s.now c.args.i c.requires c.field_answer.ensures.1 told,
     )))

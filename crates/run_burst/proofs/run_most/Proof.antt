@@ -13,12 +13,12 @@ returns_3 c =
     (none_ran c.requires.0, omega arith)
 
 -- where all is read
-module _ (c : tie.After-smaller-n) where
-  ready : Ready c.args.table.now c.args.round.now c.event_word-start.result c.get_word-position.result c.smaller-n.result
+module _ (c : tie.After-min-n) where
+  ready : Ready c.args.table.now c.args.round.now c.event_word-start.result c.get_word-position.result c.min-n.result
   ready =
       make_ready c.requires.0 c.requires.1 c.if-outranked.false c.get_word.ensures
       c.if-get_word-eq0.false c.get_word-position.ensures c.event_at-event.ensures c.event_word-length.ensures
-      c.event_word-start.ensures (omega (arith, c.smaller-n.ensures, c.if-length-position.false))
+      c.event_word-start.ensures (omega (arith, c.min-n.ensures, c.if-length-position.false))
 
 run_from_requires : tie.Need-run_from-ran-requires
 run_from_requires c κs =
@@ -29,7 +29,7 @@ returns_4 : tie.Need-returns
 returns_4 c = (
   rows _ _ (λ i. omega (arith, c.slice_known-1.given i)) (ready c.before.before.before.before.before.before.before.before.before.before.before.before) c.get_word-depth.ensures c.get_word-position.ensures
       c.run_from-ran.ensures.0 c.put_word.ensures c.put_word-2.ensures,
-  omega (arith, c.run_from-ran.ensures.1.0, c.smaller-n.ensures),
+  omega (arith, c.run_from-ran.ensures.1.0, c.min-n.ensures),
 )
 
 pub run_most_spec : {M : Type 1} → statement M

@@ -15,7 +15,7 @@ returns : tie.Need-returns-then-room-written invariant-loop decreases-loop
 returns c =
     full c.loop-left.invariant
     c.loop-left-test.true c.if-room-written.true
-    c.idle_or.ensures.0 c.frame_answer.ensures
+    c.idle_or.ensures c.frame_answer.ensures
 
 sub_frame_answer_2 : tie.Need-overflow_sub-steps-then-answer-eq-IDLE invariant-loop decreases-loop
 sub_frame_answer_2 c =
@@ -62,14 +62,14 @@ loop_again c =
 returns_4 : tie.Need-returns invariant-loop decreases-loop
 returns_4 c =
     all_made c.loop-left.invariant (omega arith)
-    c.loop-left-test.false c.idle_or-2.ensures.0 c.frame_answer-2.ensures
+    c.loop-left-test.false c.idle_or-2.ensures c.frame_answer-2.ensures
 
 pub frame_in_spec : {M : Type 1} → statement M
 frame_in_spec =
     tie.close
     (tie.spec invariant-loop decreases-loop
     (λ c. begin c.requires.0)
-    (λ c κs. (c.loop-left.invariant.sound, omega arith))
+    (λ c κs. c.loop-left.invariant.sound)
     (omega arith) (omega arith)
     (λ c. c.loop-left.invariant.round_long)
     (λ c. c.loop-left.invariant.commits_long)
@@ -77,7 +77,7 @@ frame_in_spec =
     (λ c κs. c.loop-left.invariant.sound)
     sub_frame_answer_2 frame_answer_requires_2 (omega arith) (omega arith) returns_2 sub_frame_answer_3 frame_answer_requires_3
     (omega arith) (omega arith) returns_3 (omega arith) loop_less loop_again
-    (λ c κs. (c.loop-left.invariant.sound, omega arith))
+    (λ c κs. c.loop-left.invariant.sound)
     (omega arith)
     (λ c. c.loop-left.invariant.round_long)
     (λ c. c.loop-left.invariant.commits_long)

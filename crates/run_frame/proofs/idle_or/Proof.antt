@@ -9,7 +9,7 @@ idle_or_spec =
     tie.close
     (tie.spec
     (λ c κs. search rules)
-    (λ c. (runs_on c.before.before.before.before.requires.0 _ c.before.get_word.ensures c.if-get_word-ne0.true, omega arith))
+    (λ c. runs_on c.before.before.before.before.requires _ c.before.get_word.ensures c.if-get_word-ne0.true)
     (λ c κs. search rules)
-    (λ c. (waits_on c.before.before.before.before.before.before.requires.0 _ c.before.before.before.get_word.ensures c.before.before.if-get_word-ne0.false c.before.get_word-2.ensures c.if-get_word-ne0-2.true, omega arith))
-    (λ c. (rests c.before.before.before.before.before.before.requires.0 _ c.before.before.before.get_word.ensures c.before.before.if-get_word-ne0.false c.before.get_word-2.ensures c.if-get_word-ne0-2.false, omega arith)))
+    (λ c. waits_on c.before.before.before.before.before.before.requires _ c.before.before.before.get_word.ensures c.before.before.if-get_word-ne0.false c.before.get_word-2.ensures c.if-get_word-ne0-2.true)
+    (λ c. rests c.before.before.before.before.before.before.requires _ c.before.before.before.get_word.ensures c.before.before.if-get_word-ne0.false c.before.get_word-2.ensures c.if-get_word-ne0-2.false))

@@ -29,23 +29,23 @@ returns_2 c =
 order_at_requires : tie.Need-order_at-requires invariant-loop decreases-loop
 order_at_requires c κs = let at_loop = c in (at_loop.requires.0, c.if-text-q.false)
 
-loop_again : tie.Need-loop-steps-preserved-in-Before invariant-loop decreases-loop
+loop_again : tie.Need-loop-steps-preserved-in-Less invariant-loop decreases-loop
 loop_again c =
     let at_order = c in
     let at_inside = at_order in
     let at_half = at_inside in
     let at_test = at_half in
     sought_before at_test.loop-steps.invariant at_test.loop-steps-test.true _ _ refl refl at_half.if-hi-lo.false at_inside.if-text-q.false
-    (sym at_order.order_at.ensures ∙ c.in-Before.is)
+    (sym at_order.order_at.ensures ∙ c.in-Less.is)
 
-returns_3 : tie.Need-returns-in-Same invariant-loop decreases-loop
+returns_3 : tie.Need-returns-in-Equal invariant-loop decreases-loop
 returns_3 c =
     let at_order = c in
     let at_inside = at_order in
     let at_half = at_inside in
     let at_test = at_half in
     sought_same at_test.loop-steps.invariant at_test.loop-steps-test.true _ _ refl refl at_half.if-hi-lo.false at_inside.if-text-q.false
-    (sym at_order.order_at.ensures ∙ c.in-Same.is)
+    (sym at_order.order_at.ensures ∙ c.in-Equal.is)
 
 add_lo : tie.Need-overflow_add-lo invariant-loop decreases-loop
 add_lo c =
@@ -59,7 +59,7 @@ loop_again_2 c =
     let at_half = at_inside in
     let at_test = at_half in
     sought_behind at_test.loop-steps.invariant at_test.loop-steps-test.true _ _ refl refl at_half.if-hi-lo.false at_inside.if-text-q.false
-    (sym at_order.order_at.ensures ∙ c.in-Behind.is)
+    (sym at_order.order_at.ensures ∙ c.in-Greater.is)
 
 pub sought_spec : {M : Type 1} → statement M
 sought_spec =

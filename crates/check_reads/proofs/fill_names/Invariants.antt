@@ -1,0 +1,8 @@
+-- The sets of the events passed stand in the buffer.
+use Rattle.lib_bits.specs.Bits.{Gathers}
+use Rattle.check_reads.specs.Sets.{named_on}
+use Rattle.check_reads.proofs.Filling.{Filled}
+use Rattle.check_reads.proofs.fill_names.Given as goal
+
+abbrev pub invariant-loop-e : goal.invariant-loop-e
+invariant-loop-e l = Filled (λ e v. Gathers l.n v (named_on l.d l.ev l.n e)) l.named l.e

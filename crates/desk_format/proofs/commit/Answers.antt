@@ -1,9 +1,0 @@
--- Five texts, one after the other.
-use Rattle.desk_format.proofs.Laws.{commit_text}
-use Rattle.desk_format.proofs.commit.Goals as goal
-
-pub returns-clause-out_after : goal.returns-clause-out_after
-returns-clause-out_after c =
-    commit_text _ _ _ _ _ _ _ c.print_text-a.ensures.out_after
-    c.put_decimal-b.ensures.out_after c.print_text-c.ensures.out_after
-    c.put_decimal-d.ensures.out_after c.print_text.ensures.out_after
