@@ -151,7 +151,9 @@ fn operand(ts: &[Token], at: usize, out: &mut [u8; FIELD_BYTES], n: usize) -> Op
     }
 }
 
-// `if`, which stands at the place, and its three arguments.
+// `if`, which stands at the place, and its three arguments. A call of its own, so that no bracket's frame has room for
+// its three readings.
+#[inline(never)]
 #[cycle(argument_choice_conjunction_disjunction_equality_operand_ordering_product_sum)]
 fn choice(ts: &[Token], at: usize, out: &mut [u8; FIELD_BYTES], n: usize) -> Option<Read>
     requires n_bound { n ≤ at * word_field }
