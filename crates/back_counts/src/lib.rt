@@ -8,7 +8,7 @@ ghost use Rattle.back_counts.specs.Counts.{EntriesInside, share_of, count_event,
 ghost use Rattle.draft_form.specs.Sizes.{draft_nodes};
 ghost use Rattle.spec_language.specs.Limits.{behaviour_limit};
 
-use draft_form::{Draft, entry_of, layout};
+use draft_form::{Draft, entry_count, entry_kind, entry_of, layout};
 
 // Off and on around the copy and around the copy-back.
 const MASKS: usize = 4;
@@ -19,8 +19,8 @@ fn entry_length(entry: u64) -> usize
     requires { entry_count entry ≤ draft_nodes }
     ensures { result ≡ share_of entry }
 {
-    let count = (entry / layout::COUNTS) as usize;
-    match entry % layout::KINDS {
+    let count = entry_count(entry);
+    match entry_kind(entry) {
         layout::PASSIVE => 2 + 2 * (count + 1),
         layout::IMMEDIATE => 2 + (count + 1),
         layout::LATER => 2 + (count + 2),

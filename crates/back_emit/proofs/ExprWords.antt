@@ -46,19 +46,19 @@ con_words : (d : List ℕ) (e w : ℕ) → w < 2 ^ 32 → node_words d e (687194
 con_words d e w h =
     let t : node_tag (68719476736 + w) ≡ 16 = omega arith in
     let z : node_word (68719476736 + w) ≡ w = omega arith in
-    sym (node_push d e (68719476736 + w) t) ∙ ap (λ (x : ℕ). 1280 ∷ x ∷ []) z
+    sym (node_push d e (68719476736 + w) refl refl t) ∙ ap (λ (x : ℕ). 1280 ∷ x ∷ []) z
 
 app_words : (d : List ℕ) (e f : ℕ) → f < 16 → node_words d e (77309411328 + f) ≡ (2048 + f) ∷ 0 ∷ []
 app_words d e f h =
     let t : node_tag (77309411328 + f) ≡ 18 = omega arith in
     let z : node_word (77309411328 + f) % 16 ≡ f = omega arith in
-    sym (node_apply d e (77309411328 + f) (λ u. omega arith) (λ u. omega arith)) ∙ ap (λ (x : ℕ). (2048 + x) ∷ 0 ∷ []) z
+    sym (node_apply d e (77309411328 + f) refl refl (λ u. omega arith) (λ u. omega arith)) ∙ ap (λ (x : ℕ). (2048 + x) ∷ 0 ∷ []) z
 
 name_words_law : (d : List ℕ) (e i : ℕ) → i < 64 → node_words d e (73014444032 + i) ≡ name_words d e i
 name_words_law d e i h =
     let t : node_tag (73014444032 + i) ≡ 17 = omega arith in
     let z : node_word (73014444032 + i) % 64 ≡ i = omega arith in
-    sym (node_name d e (73014444032 + i) (λ u. omega arith) t) ∙ ap (name_words d e) z
+    sym (node_name d e (73014444032 + i) refl refl t) ∙ ap (name_words d e) z
 
 fetched : (i : ℕ) (b : Bool) → pick (elim b [ true ↦ false | false ↦ true ]) ((1536 + i) ∷ 0 ∷ []) ((1792 + i) ∷ 0 ∷ []) ≡ code_words (pick b (fetch i) (load i) ∷ [])
 unfolding code_words

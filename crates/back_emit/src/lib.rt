@@ -13,14 +13,14 @@ ghost use Rattle.back_emit.specs.Writing.{HasRoom, Emits};
 ghost use Rattle.back_emit.specs.Opcodes.{defer_code, restore_code};
 ghost use Rattle.spec_language.specs.Limits.{behaviour_limit};
 
-use draft_form::{Draft, entry_of, layout, moved_node};
+use draft_form::{Draft, entry_kind, entry_of, layout, moved_node};
 use lib_word::put_word;
+use spec_language::limits;
 
 pub mod opcodes;
 
-const BEHAVIOURS: u64 = spec_language::limits::BEHAVIOURS as u64;
 // Above the numbers of the functions.
-const FUNCTIONS: u64 = 16;
+const FUNCTIONS: u32 = 16;
 
 // The table, and the word of it that is written next.
 #[derive(Drop)]
@@ -76,11 +76,11 @@ impl<'a> Emitter<'a> {
         requires { HasRoom self.old (node_words draft.now event node) }
         ensures { Emits self.old (node_words draft.now event node) self.new }
     {
-        let word = node % layout::WORD;
-        match node / layout::WORD {
-            layout::CONSTANT => self.instr(opcodes::PUSH, word as u32),
-            layout::NAME => self.name(draft, event, (word % BEHAVIOURS) as usize),
-            _ => self.instr(opcodes::APPLY + (word % FUNCTIONS) as u32, 0),
+        let word = draft_form::node_word(node);
+        match draft_form::node_tag(node) {
+            layout::CONSTANT => self.instr(opcodes::PUSH, word),
+            layout::NAME => self.name(draft, event, word as usize % limits::BEHAVIOURS),
+            _ => self.instr(opcodes::APPLY + word % FUNCTIONS, 0),
         }
     }
 
@@ -101,10 +101,8 @@ impl<'a> Emitter<'a> {
         requires room { HasRoom self.old (turn_words draft.now event operation i) }
         ensures { Emits self.old (turn_words draft.now event operation i) self.new }
     {
-        let entry = entry_of(draft, event, i);
-        let start = (entry / layout::KINDS % layout::FIRSTS) as usize;
-        let count = (entry / layout::COUNTS) as usize;
-        self.expr(draft, event, i, &draft[start..start + count]);
+        let nodes = draft_form::nodes_of(draft, entry_of(draft, event, i));
+        self.expr(draft, event, i, nodes);
         self.instr(operation + i as u32, 0);
     }
 
@@ -114,7 +112,7 @@ impl<'a> Emitter<'a> {
         requires room { HasRoom self.old (turn_words_of_kind draft.now event kind operation i) }
         ensures { Emits self.old (turn_words_of_kind draft.now event kind operation i) self.new }
     {
-        if entry_of(draft, event, i) % layout::KINDS == kind {
+        if entry_kind(entry_of(draft, event, i)) == kind {
             self.turn_code(draft, event, operation, i);
         }
     }
@@ -125,7 +123,7 @@ impl<'a> Emitter<'a> {
         requires room { HasRoom self.old (move_words draft.now event i) }
         ensures { Emits self.old (move_words draft.now event i) self.new }
     {
-        if entry_of(draft, event, i) % layout::KINDS == layout::LATER {
+        if entry_kind(entry_of(draft, event, i)) == layout::LATER {
             self.instr(opcodes::MOVE + i as u32, 0);
         }
     }

@@ -12,7 +12,6 @@ ghost use Rattle.spec_language.specs.Limits.{behaviour_limit, stack_depth};
 use draft_form::{Draft, layout};
 use spec_language::limits;
 
-const BEHAVIOURS: u32 = limits::BEHAVIOURS as u32;
 // A value of each behaviour.
 type Values = [u32; limits::BEHAVIOURS];
 // The words of the stack, from its lowest on.
@@ -40,10 +39,7 @@ fn push(stack: &mut Stack, k: usize, w: u32) -> usize
 fn name_value(values: &Values, j: u32) -> u32
     ensures { result ≡ look values.now j }
 {
-    if j < BEHAVIOURS {
-        return values[j as usize];
-    }
-    0
+    values.get(j as usize).copied().unwrap_or(0)
 }
 
 // Argument j of the n at place i of the stack; 0 for one that is not needed.
@@ -52,10 +48,7 @@ fn argument_at(stack: &Stack, i: usize, n: usize, j: usize) -> u32
     requires { (i + n ≤ stack_depth) × (j < stack_depth) }
     ensures { result ≡ argument stack.now i n j }
 {
-    if j < n {
-        return stack[i + j];
-    }
-    0
+    stack[i..i + n].get(j).copied().unwrap_or(0)
 }
 
 // Function f on its n arguments at place i of the stack.
@@ -93,16 +86,15 @@ fn eval_node(node: u64, values: &Values, stack: &mut Stack, k: usize) -> usize
     ensures stack_after { stack.new ≡ node_stack values.now node stack.old k }
     ensures upper_bound { result ≤ stack_depth }
 {
-    let w = (node % layout::WORD) as u32;
-    if node / layout::WORD == layout::CONSTANT {
-        return push(stack, k, w);
+    let w = draft_form::node_word(node);
+    match draft_form::node_tag(node) {
+        layout::CONSTANT => push(stack, k, w),
+        layout::NAME => push(stack, k, name_value(values, w)),
+        _ => {
+            let f = (w % BYTE) as u8;
+            apply_top(f, lib_signature::arity_of(f), stack, k)
+        }
     }
-    if node / layout::WORD == layout::NAME {
-        return push(stack, k, name_value(values, w));
-    }
-    let f = (w % BYTE) as u8;
-    let n = lib_signature::arity_of(f);
-    apply_top(f, n, stack, k)
 }
 
 // The value of the expression of these nodes of the draft, as behaviour b uses them; `values` those of names.

@@ -15,7 +15,7 @@ ghost use Rattle.format_layout.specs.Sizes.{code_begin, table_bytes, table_kinds
 ghost use Rattle.spec_language.specs.Limits.{behaviour_limit};
 
 use back_emit::Emitter;
-use draft_form::{Draft, entry_of, layout};
+use draft_form::{Draft, entry_count, entry_kind, entry_of, layout};
 use format_layout::table;
 
 // 1 for a passive's entry.
@@ -23,10 +23,7 @@ use format_layout::table;
 fn kind_of(entry: u64) -> u32
     ensures { result ≡ pick (eqb (entry_kind entry) 1) 1 0 }
 {
-    if entry % layout::KINDS == layout::PASSIVE {
-        return 1;
-    }
-    0
+    u32::from(entry_kind(entry) == layout::PASSIVE)
 }
 
 // The kinds of the behaviours.
@@ -46,8 +43,8 @@ fn passive_length(entry: u64) -> usize
     requires { entry_count entry ≤ draft_nodes }
     ensures { result ≡ again_share entry }
 {
-    if entry % layout::KINDS == layout::PASSIVE {
-        return (entry / layout::COUNTS) as usize + 1;
+    if entry_kind(entry) == layout::PASSIVE {
+        return entry_count(entry) + 1;
     }
     0
 }

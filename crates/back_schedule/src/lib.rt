@@ -17,8 +17,10 @@ use draft_form::{Draft, layout};
 fn is_met(entry: u64) -> bool
     ensures { result ≡ not (eqb (met_mark entry) 0) }
 {
-    let kind = entry % layout::KINDS;
-    kind != layout::PASSIVE && kind != layout::IMMEDIATE
+    !matches!(
+        draft_form::entry_kind(entry),
+        layout::PASSIVE | layout::IMMEDIATE
+    )
 }
 
 // The set with i, if behaviour i with the entry is met at once.

@@ -32,7 +32,7 @@ fn parameter_value(params: &[u8], k: usize) -> u64
 fn fill_node(params: &[u8], node: u64) -> u64
     ensures { result ≡ filled_node params.now node }
 {
-    if node / layout::WORD == layout::PARAMETER {
+    if draft_form::node_tag(node) == layout::PARAMETER {
         return layout::CONSTANT_NODE + parameter_value(params, (node % PARAMETERS) as usize);
     }
     node
@@ -53,7 +53,9 @@ pub fn fill_draft(draft: &mut Draft, nodes: usize, params: &[u8])
 fn has_param(nodes: &[u64]) -> bool
     ensures { result ≡ list_any is_param nodes.now }
 {
-    nodes.iter().any(|x| *x / layout::WORD == layout::PARAMETER)
+    nodes
+        .iter()
+        .any(|x| draft_form::node_tag(*x) == layout::PARAMETER)
 }
 
 // Whether a parameter is among the first `nodes` nodes and fewer than 32 bytes are lent.

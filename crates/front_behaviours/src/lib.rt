@@ -16,18 +16,9 @@ use sheet_field::{places, sizes, tags};
 use spec_language::limits;
 use spec_language::refusals::Refusal;
 
-// How an entry is packed, as sizes.
-const FIRSTS: usize = layout::FIRSTS as usize;
-
-const KINDS: usize = layout::KINDS as usize;
-
-const PASSIVE: usize = layout::PASSIVE as usize;
-
-const IMMEDIATE: usize = layout::IMMEDIATE as usize;
-
 // An expression that fills v, of nesting at most 16; its entry goes to `place`. The field has `over` bytes before v.
 #[tactic(auto, using(lib_base::proofs::Pick::branches), unfolding(crate::specs::Handler::entry_at))]
-fn read_entry(v: &[u8], draft: &mut Draft, n: usize, place: usize, kind: usize, over: usize) -> Read
+fn read_entry(v: &[u8], draft: &mut Draft, n: usize, place: usize, kind: u64, over: usize) -> Read
     requires v_bound { n * byte_field + length v.now ≤ sheet_bytes }
     requires entry_placed { EntryPlaced place kind over }
     ensures draft_after { out result draft.new ≡ entry_at v.now draft.old n place kind over }
@@ -37,7 +28,7 @@ fn read_entry(v: &[u8], draft: &mut Draft, n: usize, place: usize, kind: usize, 
     if size != v.len() {
         return Err(Refusal::WrongLength);
     }
-    draft[place] = (((m - n) * FIRSTS + n) * KINDS + kind) as u64;
+    draft[place] = draft_form::pack_entry(kind, n, m - n);
     Ok(Done {
         size: size + over,
         next: m,
@@ -62,7 +53,7 @@ fn read_handler_value(v: &[u8], events: usize, i: usize, draft: &mut Draft, n: u
     if v.len() == places::PHASE {
         return Err(Refusal::WrongLength);
     }
-    let phase = v[places::PHASE] as usize;
+    let phase = v[places::PHASE];
     if 1 < phase {
         return Err(Refusal::OffScale);
     }
@@ -75,7 +66,7 @@ fn read_handler_value(v: &[u8], events: usize, i: usize, draft: &mut Draft, n: u
         draft,
         n,
         place,
-        IMMEDIATE + phase,
+        layout::IMMEDIATE + u64::from(phase),
         sizes::HANDLER_HEAD,
     )
 }
@@ -165,7 +156,7 @@ fn read_passive(v: &[u8], i: usize, draft: &mut Draft, n: usize) -> Read
     ensures body_in { BodyIn (length v.now + 3) n result }
 {
     let Done { size, next: m } = front_field::read_expr(limits::NESTING, v, draft, n)?;
-    draft[layout::PASSIVES + i] = (((m - n) * FIRSTS + n) * KINDS + PASSIVE) as u64;
+    draft[layout::PASSIVES + i] = draft_form::pack_entry(layout::PASSIVE, n, m - n);
     front_viewers::read_ending(&v[size..], i, draft, v.len() + sizes::HEADER, m)
 }
 
