@@ -12,7 +12,6 @@ ghost use Rattle.ask_agree.specs.Conflict.{clash, least_in, conflict_with, confl
 ghost use Rattle.ask_agree.specs.Agree.{agree_on};
 ghost use Rattle.spec_language.specs.Limits.{behaviour_limit, event_limit};
 
-use back_compile::Judgement;
 use check_reads::Sets;
 use draft_form::{Draft, layout};
 use spec_language::limits;
@@ -140,9 +139,8 @@ pub fn agree_at(sheet: &[u8], params: &[u8]) -> u64
     ensures { result ≡ agree_on sheet.now params.now }
 {
     let mut draft = [0u64; layout::LENGTH];
-    let judgement = back_compile::judge_sheet(sheet, params, &mut draft);
-    let Judgement::Accepted(events, behaviours) = judgement else {
-        return back_compile::judgement_number(judgement) as u64;
-    };
-    clash_number(clash_in(&draft, events, behaviours))
+    match back_compile::judge_sheet(sheet, params, &mut draft) {
+        Ok(counts) => clash_number(clash_in(&draft, counts.events, counts.behaviours)),
+        Err(turndown) => u64::from(turndown.number()),
+    }
 }

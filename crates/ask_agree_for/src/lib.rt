@@ -15,7 +15,6 @@ ghost use Rattle.ask_agree_for.specs.AgreeFor.{encounter_in, agree_for_in, agree
 ghost use Rattle.spec_language.specs.Limits.{behaviour_limit, event_limit};
 
 use ask_agree::Clash;
-use back_compile::Judgement;
 use check_graph::ROW;
 use check_reads::Sets;
 use draft_form::{Draft, layout};
@@ -124,9 +123,8 @@ pub fn agree_for_at(sheet: &[u8], params: &[u8], behaviour: u32) -> u64
     ensures { result ≡ agree_for_on sheet.now params.now behaviour }
 {
     let mut draft = [0u64; layout::LENGTH];
-    let judgement = back_compile::judge_sheet(sheet, params, &mut draft);
-    let Judgement::Accepted(events, behaviours) = judgement else {
-        return back_compile::judgement_number(judgement) as u64;
-    };
-    agree_for_of(&draft, events, behaviours, behaviour)
+    match back_compile::judge_sheet(sheet, params, &mut draft) {
+        Ok(counts) => agree_for_of(&draft, counts.events, counts.behaviours, behaviour),
+        Err(turndown) => u64::from(turndown.number()),
+    }
 }

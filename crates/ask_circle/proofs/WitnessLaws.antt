@@ -1,7 +1,7 @@
 -- What is found on the draft, its parameters filled in, is a shortest circle of the sheet's program: the matrix is its
 -- dependence (crate check_faults), and a shortest circle has distinct members. That the draft is the program's is what
 -- the judging tells (crate back_compile).
-use Rattle.lib_base.proofs.Prelude.{ℕ, ◌≤◌, ◌<◌, ◌≡◌, refl, ◌∙◌, sym, ap, subst, true, Bool, ⊎_elim, List, [], ◌∷◌}
+use Rattle.lib_base.proofs.Prelude.{ℕ, ◌≤◌, ◌<◌, ◌≡◌, ◌∙◌, sym, ap, subst, true, Bool, ⊎_elim, List, [], ◌∷◌}
 use Rattle.lib_base.proofs.Prelude.{List-as-Nodup, length, arith}
 use Rattle.spec_language.specs.Syntax.{Program}
 use Rattle.spec_language.specs.Dependence.{size, events, no_event, depends_on}
@@ -25,9 +25,7 @@ use Rattle.check_distance.proofs.Walks.{circle_same}
 use Rattle.check_shortest.specs.Search.{Wide, ShortestFound}
 use Rattle.back_compile.specs.Number.{number_on}
 use Rattle.back_compile.specs.Compiled.{program_of}
-use Rattle.back_compile.specs.Judged.{CircleDraft, JudgedAs, answer_of}
-use Rattle.back_compile.specs.declared.Judgement.{Judgement}
-use Rattle.back_compile.specs.declared.Judgement.TheVariants.{Accepted, Circular, Refused}
+use Rattle.back_compile.specs.Judged.{CircleDraft, Judgement, JudgedAs, answer_of}
 use Rattle.back_compile.proofs.Judging.{turns_number, judged_number}
 use Rattle.ask_circle.specs.Witness.{list_answer, CircleListed, Witnessed}
 
@@ -83,19 +81,14 @@ listed_on {ev} {bs} {n} {d} c k f = listed_in c.program d n c.drafted c.fits ((k
 -- ---- the judging told
 
 -- no circle, by the judgement
-pub not_circular : (s ps d list : List ℕ) (a : Judgement) → JudgedAs s ps d a → ((ev bs : ℕ) → a ≡ Circular ev bs → ⊥) → {r : ℕ} → r ≡ answer_of a
+pub not_circular : (s ps d list : List ℕ) (a : Judgement) → JudgedAs s ps d a → (answer_of a ≡ 12 → ⊥) → {r : ℕ} → r ≡ answer_of a
     → Witnessed s ps list r list
 not_circular s ps d list a h n {r} q =
     let e : r ≡ number_on s ps = judged_number s ps d a h q in
     record {
       other = λ m. ap (λ (x : ℕ). list_answer x list) e;
-      circular = λ m. absurd (no_twelve a h n (sym q ∙ e ∙ m));
+      circular = λ m. absurd (n (sym q ∙ e ∙ m));
     }
-  where
-    no_twelve : (a : Judgement) → JudgedAs s ps d a → ((ev bs : ℕ) → a ≡ Circular ev bs → ⊥) → answer_of a ≡ 12 → ⊥
-    no_twelve (Accepted ev bs) h n z = omega arith
-    no_twelve (Circular ev bs) h n z = absurd (n ev bs refl)
-    no_twelve (Refused k) h n z = h.finding.other z
 
 module _ (s ps : List ℕ) {ev bs : ℕ} {d : List ℕ} (w : CircleDraft s ps ev bs d) where
   pub turns_draft : (ev ≤ 32) × (bs ≤ 64) × AllInside d ev bs

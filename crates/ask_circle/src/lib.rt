@@ -4,7 +4,7 @@
 
 ghost use Rattle.ask_circle.specs.Witness.{Witnessed};
 
-use back_compile::Judgement;
+use back_compile::Turndown;
 use draft_form::layout;
 
 // compile's number, as with a full table, and the list as it was; but with 12, its event times 256 (255 for none) and
@@ -13,9 +13,11 @@ pub fn circle_at(sheet: &[u8], params: &[u8], list: &mut [u8]) -> u64
     ensures { Witnessed sheet.now params.now list.old result list.new }
 {
     let mut draft = [0u64; layout::LENGTH];
-    let judgement = back_compile::judge_sheet(sheet, params, &mut draft);
-    let Judgement::Circular(events, behaviours) = judgement else {
-        return back_compile::judgement_number(judgement) as u64;
-    };
-    check_shortest::list_circle(&draft, events, behaviours, list)
+    match back_compile::judge_sheet(sheet, params, &mut draft) {
+        Ok(_) => 0,
+        Err(Turndown::Circular(counts)) => {
+            check_shortest::list_circle(&draft, counts.events, counts.behaviours, list)
+        }
+        Err(Turndown::Refused(refusal)) => u64::from(refusal.number()),
+    }
 }

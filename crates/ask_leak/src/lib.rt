@@ -15,7 +15,6 @@ ghost use Rattle.ask_leak.specs.Told.{told_leak};
 ghost use Rattle.ask_leak.specs.Leak.{leak_on};
 ghost use Rattle.spec_language.specs.Limits.{behaviour_limit, event_limit, player_limit};
 
-use back_compile::Judgement;
 use draft_form::{Draft, layout};
 use spec_language::answers;
 
@@ -150,9 +149,8 @@ pub fn leak_at(sheet: &[u8], params: &[u8], player: u32) -> u64
     ensures { result ≡ leak_on sheet.now params.now player }
 {
     let mut draft = [0u64; layout::LENGTH];
-    let judgement = back_compile::judge_sheet(sheet, params, &mut draft);
-    let Judgement::Accepted(events, behaviours) = judgement else {
-        return back_compile::judgement_number(judgement) as u64;
-    };
-    leak_of(&draft, events, behaviours, player)
+    match back_compile::judge_sheet(sheet, params, &mut draft) {
+        Ok(counts) => leak_of(&draft, counts.events, counts.behaviours, player),
+        Err(turndown) => u64::from(turndown.number()),
+    }
 }

@@ -14,7 +14,6 @@ ghost use Rattle.ask_pair.specs.Pair.{everyone, weight, flags_at, packed_pair, p
 ghost use Rattle.ask_pair.specs.Flags.{all_flags};
 ghost use Rattle.spec_language.specs.Limits.{behaviour_limit, event_limit};
 
-use back_compile::Judgement;
 use check_graph::ROW;
 use check_reads::Sets;
 use draft_form::{Draft, layout};
@@ -151,9 +150,8 @@ pub fn pair_at(sheet: &[u8], params: &[u8], first: u32, second: u32) -> u64
     ensures { result ≡ pair_on sheet.now params.now first second }
 {
     let mut draft = [0u64; layout::LENGTH];
-    let judgement = back_compile::judge_sheet(sheet, params, &mut draft);
-    let Judgement::Accepted(events, behaviours) = judgement else {
-        return back_compile::judgement_number(judgement) as u64;
-    };
-    pair_for(&draft, events, behaviours, first, second)
+    match back_compile::judge_sheet(sheet, params, &mut draft) {
+        Ok(counts) => pair_for(&draft, counts.events, counts.behaviours, first, second),
+        Err(turndown) => u64::from(turndown.number()),
+    }
 }

@@ -1,6 +1,6 @@
 -- What each answer of the judging rests on: the reader's fault is the grammar's, and the draft, filled in, is judged as
 -- the sheet's program is. Where nothing lacks, the values filled in are those lent.
-use Rattle.lib_base.proofs.Prelude.{ℕ, ◌≤◌, ◌<◌, ◌≡◌, refl, ◌∙◌, sym, ap, subst, true, false, Bool, ◌≢◌}
+use Rattle.lib_base.proofs.Prelude.{ℕ, ◌≤◌, ◌<◌, ◌≡◌, refl, ◌∙◌, sym, ap, true, false, Bool, ◌≢◌}
 use Rattle.lib_base.proofs.Prelude.{List, length, get_or, replicate, length-replicate, ltb, arith}
 use Rattle.lib_base.specs.Basics.{All}
 use Rattle.lib_base.proofs.Tools.{split}
@@ -11,7 +11,7 @@ use Rattle.spec_language.proofs.SheetLaws.{fill_unused}
 use Rattle.spec_grammar.proofs.Programs.{fault_numbers}
 use Rattle.format_image.specs.Table.{put_words}
 use Rattle.draft_form.specs.Draft.{DraftOf}
-use Rattle.std.specs.Prelude.{Result, Err}
+use Rattle.std.specs.Prelude.{Result, Ok, Err}
 use Rattle.std.proofs.Common.{Fits, w8}
 use Rattle.front_sheet.specs.declared.Counts.{Counts}
 use Rattle.spec_language.specs.Numbers.{refusal_number}
@@ -27,9 +27,9 @@ use Rattle.back_table.proofs.TableIs.{draft_planned}
 use Rattle.back_compile.specs.Verdict.{judge, lacks_parameters, compile_on}
 use Rattle.back_compile.specs.Number.{number_on}
 use Rattle.back_compile.specs.Compiled.{Compiled, compiled, program_of}
-use Rattle.back_compile.specs.Judged.{Drafts, Passes, CircleDraft, Falls, Finding, JudgedAs, answer_of}
-use Rattle.back_compile.specs.declared.Judgement.{Judgement}
-use Rattle.back_compile.specs.declared.Judgement.TheVariants.{Accepted, Circular, Refused}
+use Rattle.back_compile.specs.Judged.{Drafts, Passes, CircleDraft, Falls, Judgement, JudgedAs, answer_of}
+use Rattle.back_compile.specs.declared.Turndown.{Turndown}
+use Rattle.back_compile.specs.declared.Turndown.TheVariants.{Circular, Refused}
 use Rattle.back_compile.proofs.JudgeLaws.{compile_opens, compile_long}
 use Rattle.back_compile.proofs.DraftJudged.{draft_unknown, draft_lacking, draft_circular, draft_overlong, draft_passes}
 use Rattle.back_compile.proofs.FillJudged.{filled_is}
@@ -60,14 +60,14 @@ module _ (s ps : List ℕ) (fit : (i : ℕ) → Fits w8 (get_or s i 0)) (hi : le
   abbrev bytes : All (λ b. b < 256) s
   bytes = bytes_of s fit
 
-  pub read_falls : {k : Refusal} {d : List ℕ} {x : ℕ} → finished (Err k) d ≡ read_on s empty → x ≡ refusal_number k → Falls s ps x
-  read_falls {k} {d} {x} q e =
+  pub read_falls : {k : Refusal} {d : List ℕ} → finished (Err k) d ≡ read_on s empty → Falls s ps (refusal_number k)
+  read_falls {k} {d} q =
       let r : read_sheet s ≡ bad (refusal_number k) = drafted_as s bytes hi (Err k) d (sym q) in
       let f = fault_numbers s (refusal_number k) r in
       record {
-        some = omega (arith, f.0, e);
-        other = omega (arith, f.1, e);
-        refused = λ t h. compile_opens s ps t h hi ∙ sym (ap (λ (y : ℕ). compiled y t) e ∙ read_fault s bytes hi k d ps t q);
+        some = omega (arith, f.0);
+        other = omega (arith, f.1);
+        refused = λ t h. compile_opens s ps t h hi ∙ sym (read_fault s bytes hi k d ps t q);
       }
 
   module _ (lends : (i : ℕ) → Fits w8 (get_or ps i 0)) {ev bs n : ℕ} {d : List ℕ} (q : finished (ready ev bs n) d ≡ read_on s empty) where
@@ -126,19 +126,11 @@ module _ (s ps : List ℕ) (fit : (i : ℕ) → Fits w8 (get_or s i 0)) (hi : le
 
 -- ---- compile's answers
 
-module _ (s ps d : List ℕ) (a : Judgement) (h : JudgedAs s ps d a) where
-  pub judged_passes : (ev bs : ℕ) → a ≡ Accepted ev bs → Passes s ps ev bs d
-  judged_passes ev bs q = subst (λ (x : Judgement). Finding s ps d x) q h.finding
-
-  pub judged_turns : (ev bs : ℕ) → a ≡ Circular ev bs → CircleDraft s ps ev bs d
-  judged_turns ev bs q = subst (λ (x : Judgement). Finding s ps d x) q h.finding
-
 -- not accepted: refused by the number that the judgement tells
-pub not_passed : (s ps d t : List ℕ) (a : Judgement) → JudgedAs s ps d a → ((ev bs : ℕ) → a ≡ Accepted ev bs → ⊥) → 34816 ≤ length t
-    → {x : ℕ} → x ≡ answer_of a → compiled x t ≡ compile_on s ps t
-not_passed s ps d t (Accepted ev bs) h n l q = absurd (n ev bs refl)
-not_passed s ps d t (Circular ev bs) h n l q = ap (λ (y : ℕ). compiled y t) q ∙ sym (h.finding.refused t l)
-not_passed s ps d t (Refused k) h n l q = ap (λ (y : ℕ). compiled y t) q ∙ sym (h.finding.refused t l)
+pub not_passed : (s ps d t : List ℕ) (e : Turndown) → JudgedAs s ps d (Err e) → 34816 ≤ length t
+    → {x : ℕ} → x ≡ answer_of (Err e) → compiled x t ≡ compile_on s ps t
+not_passed s ps d t (Circular n) h l q = ap (λ (y : ℕ). compiled y t) q ∙ sym (h.finding.refused t l)
+not_passed s ps d t (Refused r) h l q = ap (λ (y : ℕ). compiled y t) q ∙ sym (h.finding.refused t l)
 
 -- ---- compile's number
 
@@ -158,12 +150,11 @@ module _ (s ps : List ℕ) {ev bs : ℕ} {d : List ℕ} where
 
 -- the judgement's number is compile's
 pub judged_number : (s ps d : List ℕ) (a : Judgement) → JudgedAs s ps d a → {r : ℕ} → r ≡ answer_of a → r ≡ number_on s ps
-judged_number s ps d (Accepted ev bs) h q = q ∙ sym (passes_number s ps h.finding)
-judged_number s ps d (Circular ev bs) h q = q ∙ sym (turns_number s ps h.finding)
-judged_number s ps d (Refused k) h q = q ∙ told s ps (h.finding.refused (replicate 34816 0) room)
+judged_number s ps d (Ok n) h q = q ∙ sym (passes_number s ps h.finding)
+judged_number s ps d (Err (Circular n)) h q = q ∙ sym (turns_number s ps h.finding)
+judged_number s ps d (Err (Refused r)) h q = q ∙ told s ps (h.finding.refused (replicate 34816 0) room)
 
 -- and not 0 where it is not accepted
-pub turned_some : (s ps d : List ℕ) (a : Judgement) → JudgedAs s ps d a → ((ev bs : ℕ) → a ≡ Accepted ev bs → ⊥) → {r : ℕ} → r ≡ answer_of a → r ≢ 0
-turned_some s ps d (Accepted ev bs) h n q = absurd (n ev bs refl)
-turned_some s ps d (Circular ev bs) h n q = omega arith
-turned_some s ps d (Refused k) h n q = λ z. h.finding.some (sym q ∙ z)
+pub turned_some : (s ps d : List ℕ) (e : Turndown) → JudgedAs s ps d (Err e) → {r : ℕ} → r ≡ answer_of (Err e) → r ≢ 0
+turned_some s ps d (Circular n) h q = omega arith
+turned_some s ps d (Refused r) h q = λ z. h.finding.some (sym q ∙ z)

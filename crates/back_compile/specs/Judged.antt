@@ -1,6 +1,6 @@
 -- What is known of a sheet once it is judged, all but the table: what the draft is that the judging leaves, and what
 -- compile then answers with any table of full size.
-use Rattle.std.specs.Prelude.{ℕ, ◌≤◌, ◌≡◌, ◌≢◌, Bool, true, List, [], length}
+use Rattle.std.specs.Prelude.{ℕ, ◌≤◌, ◌≡◌, ◌≢◌, Bool, true, List, [], length, Result, Ok, Err}
 use Rattle.spec_language.specs.Sheet.{Sheet}
 use Rattle.spec_language.specs.Reading.{got, read_sheet}
 use Rattle.format_image.specs.Table.{put_words}
@@ -10,8 +10,10 @@ use Rattle.check_faults.specs.Checks.{cyclic_on}
 use Rattle.back_table.specs.TableWords.{table_words, Planned}
 use Rattle.back_compile.specs.Verdict.{judge, judge_read, compile_on}
 use Rattle.back_compile.specs.Compiled.{compiled, program_of}
-use Rattle.back_compile.specs.declared.Judgement.{Judgement}
-use Rattle.back_compile.specs.declared.Judgement.TheVariants.{Accepted, Circular, Refused}
+use Rattle.spec_language.specs.Numbers.{refusal_number}
+use Rattle.front_sheet.specs.declared.Counts.{Counts}
+use Rattle.back_compile.specs.declared.Turndown.{Turndown}
+use Rattle.back_compile.specs.declared.Turndown.TheVariants.{Circular, Refused}
 
 -- ---- a judgement of the bytes s, with the bytes ps lent for their parameters; d is the draft that it leaves
 
@@ -42,19 +44,22 @@ pub record Falls (s ps : List ℕ) (k : ℕ) : Type 0 where
   pub other : k ≢ 12
   pub refused : (t : List ℕ) → 34816 ≤ length t → compile_on s ps t ≡ compiled k t
 
+abbrev pub Judgement : Type 0
+Judgement = Result Counts Turndown
+
 abbrev pub Finding : List ℕ → List ℕ → List ℕ → Judgement → Type 0
-Finding s ps d (Accepted ev bs) = Passes s ps ev bs d
-Finding s ps d (Circular ev bs) = CircleDraft s ps ev bs d
-Finding s ps d (Refused k) = Falls s ps k
+Finding s ps d (Ok n) = Passes s ps n.events n.behaviours d
+Finding s ps d (Err (Circular n)) = CircleDraft s ps n.events n.behaviours d
+Finding s ps d (Err (Refused r)) = Falls s ps (refusal_number r)
 
 pub record JudgedAs (s ps d : List ℕ) (a : Judgement) : Type 0 where
   pub finding : Finding s ps d a
 
 -- compile's number
 abbrev pub answer_of : Judgement → ℕ
-answer_of (Accepted ev bs) = 0
-answer_of (Circular ev bs) = 12
-answer_of (Refused k) = k
+answer_of (Ok n) = 0
+answer_of (Err (Circular n)) = 12
+answer_of (Err (Refused r)) = refusal_number r
 
 -- ---- the steps
 

@@ -1,20 +1,20 @@
 use Rattle.lib_base.proofs.Prelude.{◌∙◌}
 use Rattle.draft_form.proofs.DraftLaws.{draft_events, draft_behaviours}
 use Rattle.check_faults.proofs.DraftChecks.{draft_inside}
-use Rattle.back_compile.proofs.Judging.{judged_passes, judged_number, turned_some}
+use Rattle.back_compile.proofs.Judging.{judged_number, turned_some}
 use Rattle.ask_agree.proofs.ConflictLaws.{agree_passed, agree_refused}
 use Rattle.ask_agree.proofs.agree_at.Goals as goal
 
 pub clash_in-requires : goal.clash_in-requires
 clash_in-requires c =
-    let f = (judged_passes _ _ _ _ c.judge_sheet-judgement.ensures _ _ c.in-Accepted.is).drafts.draft in
+    let f = c.in-Ok.ensures.finding.drafts.draft in
     (draft_events f, draft_behaviours f, draft_inside f)
 
-pub returns-in_default : goal.returns-in_default
-returns-in_default c =
-    let j = c.judge_sheet-judgement.ensures in
-    let q = c.judgement_number.ensures in
-    agree_refused _ _ _ (judged_number _ _ _ _ j q) (turned_some _ _ _ _ j c.in_default.not-Accepted q)
+pub returns-in-Err : goal.returns-in-Err
+returns-in-Err c =
+    let j = c.in-Err.ensures in
+    let q = c.from.ensures ∙ c.number.ensures in
+    agree_refused _ _ _ (judged_number _ _ _ _ j q) (turned_some _ _ _ _ j q)
 
-pub returns : goal.returns
-returns c = c.clash_number.ensures ∙ c.clash_in.ensures ∙ agree_passed _ _ _ _ _ (judged_passes _ _ _ _ c.judge_sheet-judgement.ensures _ _ c.in-Accepted.is)
+pub returns-in-Ok : goal.returns-in-Ok
+returns-in-Ok c = c.clash_number.ensures ∙ c.clash_in.ensures ∙ agree_passed _ _ _ _ _ c.in-Ok.ensures.finding

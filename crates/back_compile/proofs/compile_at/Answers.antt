@@ -1,18 +1,18 @@
 -- Each answer is a branch of `compile_on`: 1, or as the sheet is judged.
-use Rattle.lib_base.proofs.Prelude.{◌∙◌, sym, ap, arith}
+use Rattle.lib_base.proofs.Prelude.{ℕ, ◌∙◌, sym, ap, arith}
 use Rattle.back_compile.specs.Compiled.{compiled}
 use Rattle.back_compile.proofs.JudgeLaws.{compile_short}
-use Rattle.back_compile.proofs.Judging.{judged_passes, not_passed}
+use Rattle.back_compile.proofs.Judging.{not_passed}
 use Rattle.back_compile.proofs.compile_at.Goals as goal
 
 pub returns-then-table-lt-BYTES : goal.returns-then-table-lt-BYTES
-returns-then-table-lt-BYTES c = sym (compile_short _ _ _ (omega arith))
+returns-then-table-lt-BYTES c = ap (λ (n : ℕ). compiled n c.args.table.now) c.number.ensures ∙ sym (compile_short _ _ _ (omega arith))
 
-pub returns-in_default : goal.returns-in_default
-returns-in_default c = not_passed _ _ _ _ _ c.judge_sheet-judgement.ensures c.in_default.not-Accepted (omega arith) c.judgement_number.ensures
+pub returns-in-Err : goal.returns-in-Err
+returns-in-Err c = not_passed _ _ _ _ _ c.in-Err.ensures (omega arith) c.number-in-Err.ensures
 
 pub write_table-requires-clause-planned : goal.write_table-requires-clause-planned
-write_table-requires-clause-planned c = (judged_passes _ _ _ _ c.judge_sheet-judgement.ensures _ _ c.in-Accepted.is).planned
+write_table-requires-clause-planned c = c.in-Ok.ensures.finding.planned
 
-pub returns : goal.returns
-returns c = ap (compiled 0) c.write_table.ensures ∙ sym ((judged_passes _ _ _ _ c.judge_sheet-judgement.ensures _ _ c.in-Accepted.is).compiles _ (omega arith))
+pub returns-in-Ok : goal.returns-in-Ok
+returns-in-Ok c = ap (compiled 0) c.write_table.ensures ∙ sym (c.in-Ok.ensures.finding.compiles _ (omega arith))

@@ -1,5 +1,9 @@
+use Rattle.lib_base.proofs.Prelude.{refl}
 use Rattle.back_compile.proofs.Judging.{judged_number}
 use Rattle.back_compile.proofs.compile_number.Goals as goal
 
-pub returns : goal.returns
-returns c = judged_number _ _ _ _ c.judge_sheet-judgement.ensures c.judgement_number.ensures
+pub returns-in-Ok : goal.returns-in-Ok
+returns-in-Ok c = judged_number _ _ _ _ c.in-Ok.ensures refl
+
+pub returns-in-Err : goal.returns-in-Err
+returns-in-Err c = judged_number _ _ _ _ c.in-Err.ensures c.number.ensures
