@@ -1,3 +1,4 @@
 pub mod Entry
 pub mod Draft
 pub mod Sizes
+pub mod Tags

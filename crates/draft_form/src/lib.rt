@@ -6,6 +6,7 @@ ghost use Rattle.std.specs.Prelude.{◌≡◌, ◌≢◌, ◌+◌, ◌<◌, ◌�
 ghost use Rattle.draft_form.specs.Draft.{entry_of, moved, packed_entry};
 ghost use Rattle.draft_form.specs.Entry.{entry_kind, entry_start, entry_count, node_tag, node_word};
 ghost use Rattle.draft_form.specs.Sizes.{draft_nodes};
+ghost use Rattle.draft_form.specs.Tags.{name_tag};
 ghost use Rattle.spec_language.specs.Limits.{behaviour_limit};
 
 use spec_language::limits;
@@ -84,7 +85,7 @@ pub fn node_word(node: u64) -> u32
 
 // The number of the name that it is, if it is one.
 pub fn name_of(node: u64) -> Option<usize>
-    ensures { MatchOption result (node_tag node ≢ 17) (λ j. (node_tag node ≡ 17) × (j ≡ node_word node)) }
+    ensures { MatchOption result (node_tag node ≢ name_tag) (λ j. (node_tag node ≡ name_tag) × (j ≡ node_word node)) }
 {
     if node_tag(node) == layout::NAME {
         return Some(node_word(node) as usize);

@@ -24,7 +24,7 @@ pub struct Found {
 }
 
 // A name, by the bytes after its letter: b0 to b63, without leading zeros.
-fn name_of(b: u8, c: u8, d: u8) -> Option<Found>
+fn name_found(b: u8, c: u8, d: u8) -> Option<Found>
     ensures { result ≡ name_of None found (digit_of b) (digit_of c) (digit_of d) }
 {
     let x = digit_of(b)?;
@@ -94,7 +94,7 @@ fn word_at(text: &[u8], at: usize) -> Option<Found>
     let b = byte_at(text, at);
     let c = byte_at(text, at + 1);
     if b == b'b' {
-        return name_of(c, byte_at(text, at + 2), byte_at(text, at + 3));
+        return name_found(c, byte_at(text, at + 2), byte_at(text, at + 3));
     }
     marked_of(b, c)
 }

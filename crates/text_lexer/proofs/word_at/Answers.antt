@@ -5,7 +5,7 @@ use Rattle.text_lexer.proofs.word_at.Goals as goal
 
 pub returns-then-b-eq98 : goal.returns-then-b-eq98
 returns-then-b-eq98 c =
-    c.name_of.ensures
+    c.name_found.ensures
     ∙ word_name c.args.text.now c.args.at _ _ _ _ _ _ c.byte_at-b.ensures c.byte_at-c.ensures c.byte_at.ensures
     c.byte_at-then-b-eq98.ensures c.if-b-eq98.true
 

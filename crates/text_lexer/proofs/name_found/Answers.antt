@@ -1,7 +1,7 @@
 -- The tests are those of `name_of`, by the digits that the bytes are.
 use Rattle.lib_base.proofs.Prelude.{◌∙◌, sym, arith}
 use Rattle.text_lexer.proofs.Laws.{digit_is, digit_off, digit_third, no_third, name_none, name_short, name_third, name_zero, name_high, name_long}
-use Rattle.text_lexer.proofs.name_of.Goals as goal
+use Rattle.text_lexer.proofs.name_found.Goals as goal
 
 pub returns-in_err-x : goal.returns-in_err-x
 returns-in_err-x c = c.from_residual.ensures ∙ name_none _ _ _ _ _ (digit_off _ c.digit_of.ensures c.in_err-x.was)
