@@ -46,8 +46,9 @@ module _ (p : Program) (d : List ℕ) (nodes_of : ℕ) (f : Fits p) (dr : Drafte
     unfolding mark_in
     held i v kind x b e h m =
         let c : take (entry_count v) (drop (entry_start v) (used_by d i)) ≡ nodes x = rw e.count_is e.there in
-        over_nodes (λ k. bit (get_or rows k 0) i) i (used_by d i) (entry_start v) (entry_count v) (omega (arith, e.inside, long i))
-        ∙ rw c (expr_mark p (size p) (λ k. bit (get_or rows k 0) i) i (λ j a. leads_are j i a b) x h m)
+        let top = λ (s : List ℕ). get_or s 0 0 in
+        ap top (over_nodes (λ k. bit (get_or rows k 0) i) i (used_by d i) (entry_start v) (entry_count v) (omega (arith, e.inside, long i)))
+        ∙ rw c (ap top (expr_mark p (size p) (λ k. bit (get_or rows k 0) i) i (λ j a. leads_are j i a b) x h m))
 
     entry_adds : (i v : ℕ) (r : Response) → i < size p → Entry (used_by d i) v r → ResponseNested r → ResponseNamesIn (size p) r → written r ≡ true
         → eqb (mark_in d rows i v) 3 ≡ adds_by p i r

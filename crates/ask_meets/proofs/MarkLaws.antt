@@ -1,48 +1,53 @@
 -- The code's branches on marks and sets, over plain variables.
 use Rattle.lib_base.proofs.Prelude.{ℕ, ◌≤◌, ◌<◌, ◌+◌, add-one, suc, zero, ◌*◌, ◌%◌, ◌/◌, ◌^◌, ◌≡◌, refl, ◌∙◌, sym, ap, true, false}
-use Rattle.lib_base.proofs.Prelude.{Bool, ◌||◌, true≢false, ◌&&◌, not, or-false, or-true, and-false, and-true, ◌≢◌}
+use Rattle.lib_base.proofs.Prelude.{Bool, ◌||◌, true≢false, ◌&&◌, not, or-false, or-true, and-false, and-true}
 use Rattle.lib_base.proofs.Prelude.{List, length, get_or, List·getD-eq-default, eqb, ne_eqb, eqb-true, eq-eqb, eqb-false}
-use Rattle.lib_base.proofs.Prelude.{arith}
+use Rattle.lib_base.proofs.Prelude.{set, get_or-set_other, get_or-set_same, ltb, lt-ltb, arith}
 use native.Mathlib.Nat.{mod-lt, zero-lt-suc}
 use lib.Bits.{bit_xor, xor_shr, xor_mod}
 use lib.Pow.{shl_exact}
 use Rattle.lib_base.specs.Basics.{pick}
 use Rattle.lib_base.proofs.Tools.{split, by_test}
-use Rattle.lib_signature.specs.Numbers.{not_fn, if_fn}
 use Rattle.lib_bits.specs.Bits.{bit}
 use Rattle.draft_form.specs.Draft.{moved, used_by}
 use Rattle.draft_form.proofs.DraftLaws.{used_at}
 use Rattle.lib_bits.proofs.BitLaws.{bit_none, bit_one}
-use Rattle.ask_meets.specs.Marks.{name_mark, one_mark, two_mark, if_mark, push_mark, applied_mark, mark_step, marks_among}
+use Rattle.ask_meets.specs.Marks.{name_mark, push_mark, mark_step, marks_among}
+use Rattle.ask_meets.specs.Marking.{mark_number, standing}
+use Rattle.ask_meets.specs.declared.Mark.{Mark}
+use Rattle.ask_meets.specs.declared.Mark.TheVariants.{Apart}
 
 -- ---- names
-
-pub name_apart : (rows : List ℕ) (b j : ℕ) {t : Bool} → (j ≡ b → ⊥) → t ≡ bit (get_or rows j 0) b → t ≡ false → 0 ≡ name_mark (λ k. bit (get_or rows k 0) b) b j
-unfolding name_mark
-name_apart rows b j n q f = rw (ne_eqb j b n, sym q ∙ f)
 
 pub name_past : (rows : List ℕ) (b j : ℕ) → length rows ≡ 64 → (j ≡ b → ⊥) → 64 ≤ j → 0 ≡ name_mark (λ k. bit (get_or rows k 0) b) b j
 unfolding name_mark
 name_past rows b j l n h = let k : length rows ≤ j = omega arith in rw (ne_eqb j b n, List·getD-eq-default rows 0 k, bit_none b)
 
--- ---- functions
+-- ---- the stack
 
-pub applied_one_law : (f s m r : ℕ) → f ≡ not_fn → m ≡ one_mark (s % 4) → r ≡ push_mark (s / 4) m → r ≡ applied_mark f s
-unfolding applied_mark
-applied_one_law f s m r h q e = rw (eq-eqb f not_fn h, ← q) e
+standing_length : (marks : List Mark) (k : ℕ) → length (standing marks k) ≡ k
+unfolding standing
+standing_length marks zero = refl
+standing_length marks (suc k) = ap suc (standing_length marks k)
 
-pub applied_if : (f s m r : ℕ) → (f ≡ not_fn → ⊥) → f ≡ if_fn → m ≡ if_mark (s / 16 % 4) (s / 4 % 4) (s % 4) → r ≡ push_mark (s / 64) m → r ≡ applied_mark f s
-unfolding applied_mark
-applied_if f s m r n h q e = rw (ne_eqb f not_fn n, eq-eqb f if_fn h, ← q) e
+-- what is written above it does not count
+standing_under : (marks : List Mark) (mark : Mark) (k j : ℕ) → j ≤ k → standing (set marks k mark) j ≡ standing marks j
+unfolding standing
+standing_under marks mark k zero h = refl
+standing_under marks mark k (suc j) h =
+    rw (get_or-set_other marks k j mark Apart (omega arith), standing_under marks mark k j (omega arith))
 
-pub applied_two : (f s m r : ℕ) → (f ≡ not_fn → ⊥) → (f ≡ if_fn → ⊥) → m ≡ two_mark f (s / 4 % 4) (s % 4) → r ≡ push_mark (s / 16) m → r ≡ applied_mark f s
-unfolding applied_mark
-applied_two f s m r n h q e = rw (ne_eqb f not_fn n, ne_eqb f if_fn h, ← q) e
+pub put_on : (marks : List Mark) (mark : Mark) (k : ℕ) → k < length marks → k < 32
+    → standing (set marks k mark) (k + 1) ≡ push_mark (standing marks k) (mark_number mark)
+unfolding standing push_mark
+put_on marks mark k h b =
+    let room : ltb (length (standing marks k)) 32 ≡ true = lt-ltb (length (standing marks k)) 32 (omega (arith, standing_length marks k)) in
+    rw (add-one k, room, get_or-set_same marks k mark Apart h, standing_under marks mark k k (omega arith))
 
 -- ---- nodes
 
 -- node k of those from `start` on, as behaviour i means it
-pub node_marked : (d rows : List ℕ) (i start k : ℕ) {s x next : ℕ} → s ≡ marks_among (λ j. bit (get_or rows j 0) i) i (used_by d i) start k
+pub node_marked : (d rows : List ℕ) (i start k : ℕ) {s next : List ℕ} {x : ℕ} → s ≡ marks_among (λ j. bit (get_or rows j 0) i) i (used_by d i) start k
     → x ≡ moved d i (get_or d (start + k) 0) → next ≡ mark_step (λ j. bit (get_or rows j 0) i) i s x
     → next ≡ marks_among (λ j. bit (get_or rows j 0) i) i (used_by d i) start (k + 1)
 unfolding marks_among

@@ -1,7 +1,7 @@
 -- The tests decide where two events meet: what an event is strict about is what it reads elsewhere in the set or has a
 -- handler of that does not add; so where they meet one writes what the other is strict about, and else both only add.
 use Rattle.lib_base.proofs.Prelude.{ℕ, ◌≤◌, ◌<◌, ◌≡◌, refl, ◌∙◌, sym, ap, subst, true, false, Bool, ◌||◌, false≢true}
-use Rattle.lib_base.proofs.Prelude.{true≢false, ◌&&◌, not, and-eq-true_iff, or-true, ◌≢◌, by_cases, ◌⊎◌, ⊎_elim, inr}
+use Rattle.lib_base.proofs.Prelude.{true≢false, ◌&&◌, not, and-eq-true_iff, or-true, by_cases, ◌⊎◌, ⊎_elim, inr}
 use Rattle.lib_base.proofs.Prelude.{inl, [], List·getD-eq-default, eqb, dec_lt, ne_eqb, eqb-true, eq-eqb, eqb-false}
 use Rattle.lib_base.proofs.Prelude.{not-true, arith}
 use Rattle.lib_base.specs.Basics.{All}

@@ -1,4 +1,4 @@
 pub mod Marks
 pub mod Meeting
 pub mod Strict
-pub mod MarkCount
+pub mod Marking

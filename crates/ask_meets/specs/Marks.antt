@@ -1,7 +1,7 @@
 -- How an expression stands to a behaviour b, as a number: 0 it does not name b, 2 it names b, 3 it adds to b; "name"
 -- directly or through passives. Worked out from its parts: of an expression, and of its nodes in the draft, on a stack
--- of marks in one word, a mark in two bits. (What it decides: crate ask_commute, Meets.antt, `Refers` and `Adds`.)
-use Rattle.std.specs.Prelude.{ℕ, zero, suc, ◌+◌, ◌*◌, ◌/◌, ◌%◌, Bool, false, List, get_or, eqb}
+-- of marks, the topmost first. (What it decides: crate ask_commute, Meets.antt, `Refers` and `Adds`.)
+use Rattle.std.specs.Prelude.{ℕ, zero, suc, ◌+◌, Bool, false, List, [], ◌∷◌, length, get_or, drop, eqb, ltb}
 use Rattle.lib_base.specs.Basics.{pick}
 use Rattle.lib_signature.specs.Numbers.{not_fn, if_fn, add_fn, subtract_fn}
 use Rattle.spec_language.specs.Syntax.{Expr, con, name, app1, app2, app3, Program}
@@ -52,23 +52,23 @@ adds_of p e b = adds_by p b (response p e b)
 
 -- ---- of nodes
 
--- a mark on the stack, which holds 32; what is below them is dropped
-unfoldable pub push_mark : ℕ → ℕ → ℕ
-push_mark s m = s % 4611686018427387904 * 4 + m
+-- a mark on the stack, which holds 32; a full one stays as it is
+unfoldable pub push_mark : List ℕ → ℕ → List ℕ
+push_mark s m = pick (ltb (length s) 32) (m ∷ s) s
 
--- a function takes its arguments' marks from the stack
-unfoldable pub applied_mark : ℕ → ℕ → ℕ
+-- a function takes its arguments' marks from the stack; where there is none, 0
+unfoldable pub applied_mark : ℕ → List ℕ → List ℕ
 applied_mark f s =
-    pick (eqb f not_fn) (push_mark (s / 4) (one_mark (s % 4)))
-    (pick (eqb f if_fn) (push_mark (s / 64) (if_mark (s / 16 % 4) (s / 4 % 4) (s % 4)))
-    (push_mark (s / 16) (two_mark f (s / 4 % 4) (s % 4))))
+    pick (eqb f not_fn) (push_mark (drop 1 s) (one_mark (get_or s 0 0)))
+    (pick (eqb f if_fn) (push_mark (drop 3 s) (if_mark (get_or s 2 0) (get_or s 1 0) (get_or s 0 0)))
+    (push_mark (drop 2 s) (two_mark f (get_or s 1 0) (get_or s 0 0))))
 
-unfoldable pub mark_step : (ℕ → Bool) → ℕ → ℕ → ℕ → ℕ
+unfoldable pub mark_step : (ℕ → Bool) → ℕ → List ℕ → ℕ → List ℕ
 mark_step leads b s x =
     pick (eqb (node_tag x) 17) (push_mark s (name_mark leads b (node_word x)))
     (pick (eqb (node_tag x) 18) (applied_mark (node_word x) s) (push_mark s 0))
 
 -- n nodes from `start` on
-unfoldable pub marks_among : (ℕ → Bool) → ℕ → List ℕ → ℕ → ℕ → ℕ
-marks_among leads b d start zero = 0
+unfoldable pub marks_among : (ℕ → Bool) → ℕ → List ℕ → ℕ → ℕ → List ℕ
+marks_among leads b d start zero = []
 marks_among leads b d start (suc k) = mark_step leads b (marks_among leads b d start k) (get_or d (start + k) 0)

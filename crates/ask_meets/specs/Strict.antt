@@ -14,9 +14,9 @@ use Rattle.ask_meets.specs.Marks.{marks_among}
 unfoldable pub cone_on : List ℕ → ℕ → ℕ → ℕ → ℕ → Bool
 cone_on d ev n b j = closed_by n (names_any d ev) b j || eqb j b
 
--- the mark of the expression of entry v of behaviour i, toward i
+-- the mark of the expression of entry v of behaviour i, toward i: what its nodes leave on top
 unfoldable pub mark_in : List ℕ → List ℕ → ℕ → ℕ → ℕ
-mark_in d rows i v = marks_among (λ k. bit (get_or rows k 0) i) i (used_by d i) (entry_start v) (entry_count v)
+mark_in d rows i v = get_or (marks_among (λ k. bit (get_or rows k 0) i) i (used_by d i) (entry_start v) (entry_count v)) 0 0
 
 -- what the draft has for i on event e adds to i
 unfoldable pub adds_on : List ℕ → List ℕ → ℕ → ℕ → Bool

@@ -4,7 +4,7 @@
 
 #![tactic(auto)]
 
-ghost use Rattle.std.specs.Prelude.{◌≡◌, not, ◌&&◌, ◌||◌, ℕ, ◌+◌, ◌≤◌, ◌<◌, get_or, eqb, leb};
+ghost use Rattle.std.specs.Prelude.{◌≡◌, not, ◌&&◌, ◌||◌, ℕ, ◌+◌, ◌≤◌, ◌<◌, get_or, drop, eqb, leb};
 ghost use Rattle.lib_base.specs.Basics.{pick};
 ghost use Rattle.lib_bits.specs.Bits.{bit, Gathers};
 ghost use Rattle.draft_form.specs.Draft.{entry_of};
@@ -14,7 +14,7 @@ ghost use Rattle.check_reads.specs.Sets.{RowsBy};
 ghost use Rattle.ask_leak.specs.Leaking.{names_any};
 ghost use Rattle.ask_meets.specs.Marks.{name_mark, one_mark, two_mark, if_mark, push_mark, applied_mark, mark_step};
 ghost use Rattle.ask_meets.specs.Strict.{cone_on, mark_in, strict_at_on, strict_on, StrictSets};
-ghost use Rattle.ask_meets.specs.MarkCount.{mark_count};
+ghost use Rattle.ask_meets.specs.Marking.{mark_number, mark_room, standing};
 ghost use Rattle.draft_form.specs.Sizes.{draft_nodes};
 ghost use Rattle.spec_language.specs.Limits.{behaviour_limit, event_limit};
 
@@ -24,12 +24,14 @@ use draft_form::{Draft, layout};
 use lib_signature::functions;
 use spec_language::limits;
 
-// The marks: an expression does not name the behaviour, names it, adds to it.
-const APART: u64 = 0;
+// How an expression stands to a behaviour: it does not name it, names it, or adds to it.
+#[derive(Clone, Copy, PartialEq, Eq, Debug, Drop)]
+enum Mark {
+    Apart,
+    Names,
+    Adds,
+}
 
-const NAMES: u64 = 2;
-
-const ADDS: u64 = 3;
 // The functions that a mark depends on.
 const NOT: u64 = functions::NOT as u64;
 
@@ -38,131 +40,144 @@ const ADD: u64 = functions::ADD as u64;
 const SUBTRACT: u64 = functions::SUBTRACT as u64;
 
 const IF: u64 = functions::IF as u64;
-// A mark takes this many values; the stack holds 32 of them, and room for one more where it is below this.
-const MARKS: u64 = 4;
-
-const ROOM: u64 = 4611686018427387904;
+// As many marks as the nodes of a formula put one on the other.
+const ROOM: usize = 32;
 
 // Of name j, toward behaviour b.
-fn name_mark(rows: &[u64; ROW], b: usize, j: u64) -> u64
+#[tactic(auto, using(lib_base::proofs::Pick::branches), unfolding(crate::specs::Marks::name_mark))]
+fn name_mark(rows: &[u64; ROW], b: usize, j: u64) -> Mark
     requires { b < behaviour_limit }
-    ensures value { result ≡ name_mark (λ k. bit (get_or rows.now k 0) b) b j }
-    ensures upper_bound { result < mark_count }
+    ensures { mark_number result ≡ name_mark (λ k. bit (get_or rows.now k 0) b) b j }
 {
     if j == b as u64 {
-        return ADDS;
+        return Mark::Adds;
     }
     if j < limits::BEHAVIOURS as u64 {
         if lib_bits::contains(rows[j as usize], b) {
-            return NAMES;
+            return Mark::Names;
         }
     }
-    APART
+    Mark::Apart
 }
 
 // Of `!`.
-fn one_mark(a: u64) -> u64
-    ensures value { result ≡ one_mark a }
-    ensures upper_bound { result < mark_count }
+#[tactic(auto, using(lib_base::proofs::Pick::branches), unfolding(crate::specs::Marks::one_mark))]
+fn one_mark(a: Mark) -> Mark
+    ensures { mark_number result ≡ one_mark (mark_number a) }
 {
-    if a == 0 {
-        return APART;
+    match a {
+        Mark::Apart => Mark::Apart,
+        _ => Mark::Names,
     }
-    NAMES
 }
 
 // Of a function of two arguments.
-fn two_mark(f: u64, a: u64, b: u64) -> u64
-    requires { (a < mark_count) × (b < mark_count) }
-    ensures value { result ≡ two_mark f a b }
-    ensures upper_bound { result < mark_count }
+#[tactic(auto, using(lib_base::proofs::Pick::branches), unfolding(crate::specs::Marks::two_mark))]
+fn two_mark(f: u64, a: Mark, b: Mark) -> Mark
+    ensures { mark_number result ≡ two_mark f (mark_number a) (mark_number b) }
 {
-    if a + b == APART {
-        return APART;
+    match (f, a, b) {
+        (_, Mark::Apart, Mark::Apart) => Mark::Apart,
+        (ADD | SUBTRACT, Mark::Adds, Mark::Apart) => Mark::Adds,
+        (ADD, Mark::Apart, Mark::Adds) => Mark::Adds,
+        _ => Mark::Names,
     }
-    if f == ADD {
-        if a + b == ADDS {
-            return ADDS;
-        }
-        return NAMES;
-    }
-    if f == SUBTRACT {
-        if a == ADDS {
-            if b == APART {
-                return ADDS;
-            }
-        }
-    }
-    NAMES
 }
 
 // Of `if`.
-fn if_mark(c: u64, a: u64, b: u64) -> u64
-    requires { (c < mark_count) × (a < mark_count) × (b < mark_count) }
-    ensures value { result ≡ if_mark c a b }
-    ensures upper_bound { result < mark_count }
+#[tactic(auto, using(lib_base::proofs::Pick::branches), unfolding(crate::specs::Marks::if_mark))]
+fn if_mark(c: Mark, a: Mark, b: Mark) -> Mark
+    ensures { mark_number result ≡ if_mark (mark_number c) (mark_number a) (mark_number b) }
 {
-    if c + (a + b) == APART {
-        return APART;
+    match (c, a, b) {
+        (Mark::Apart, Mark::Apart, Mark::Apart) => Mark::Apart,
+        (Mark::Apart, Mark::Adds, Mark::Adds) => Mark::Adds,
+        _ => Mark::Names,
     }
-    if c == APART {
-        if a + b == ADDS + ADDS {
-            return ADDS;
+}
+
+// Marks put one on the other: the first `depth` of them, the topmost last.
+#[derive(Drop)]
+struct Stack {
+    marks: [Mark; ROOM],
+    depth: usize,
+    ghost within: { depth ≤ mark_room },
+}
+
+impl Stack {
+    // A further mark; a full stack stays as it is.
+    #[tactic(auto, using(lib_base::proofs::Pick::branches), unfolding(crate::specs::Marks::push_mark, crate::specs::Marking::standing))]
+    fn push(&mut self, mark: Mark)
+        ensures { standing self.new.marks self.new.depth
+            ≡ push_mark (standing self.old.marks self.old.depth) (mark_number mark) }
+    {
+        if self.depth < ROOM {
+            self.marks[self.depth] = mark;
+            self.depth += 1;
         }
     }
-    NAMES
-}
 
-// The mark m on the stack.
-fn push_mark(s: u64, m: u64) -> u64
-    requires { m < mark_count }
-    ensures { result ≡ push_mark s m }
-{
-    s % ROOM * MARKS + m
-}
+    // The topmost mark is taken; an empty stack has that of what does not name the behaviour.
+    #[tactic(auto, using(lib_base::proofs::Pick::branches), unfolding(crate::specs::Marking::standing))]
+    fn pop(&mut self) -> Mark
+        ensures mark { mark_number result ≡ get_or (standing self.old.marks self.old.depth) 0 0 }
+        ensures left { standing self.new.marks self.new.depth ≡ drop 1 (standing self.old.marks self.old.depth) }
+    {
+        if self.depth == 0 {
+            return Mark::Apart;
+        }
+        self.depth -= 1;
+        self.marks[self.depth]
+    }
 
-// Function f takes its arguments' marks from the stack and puts its own.
-fn apply_mark(f: u64, s: u64) -> u64
-    ensures { result ≡ applied_mark f s }
-{
-    let last = s % MARKS;
-    let second = s / MARKS % MARKS;
-    let first = s / (MARKS * MARKS) % MARKS;
-    if f == NOT {
-        return push_mark(s / MARKS, one_mark(last));
+    // Function f takes its arguments' marks and puts its own.
+    #[tactic(auto, using(lib_base::proofs::Pick::branches), unfolding(crate::specs::Marks::applied_mark))]
+    fn apply(&mut self, f: u64)
+        ensures { standing self.new.marks self.new.depth ≡ applied_mark f (standing self.old.marks self.old.depth) }
+    {
+        let last = self.pop();
+        let mark = match f {
+            NOT => one_mark(last),
+            IF => {
+                let second = self.pop();
+                if_mark(self.pop(), second, last)
+            }
+            _ => two_mark(f, self.pop(), last),
+        };
+        self.push(mark);
     }
-    if f == IF {
-        return push_mark(s / (MARKS * MARKS * MARKS), if_mark(first, second, last));
-    }
-    push_mark(s / (MARKS * MARKS), two_mark(f, second, last))
-}
 
-// Node x, toward behaviour b.
-fn mark_node(rows: &[u64; ROW], b: usize, s: u64, x: u64) -> u64
-    requires { b < behaviour_limit }
-    ensures { result ≡ mark_step (λ k. bit (get_or rows.now k 0) b) b s x }
-{
-    if x / layout::WORD == layout::NAME {
-        return push_mark(s, name_mark(rows, b, x % layout::WORD));
+    // Node x, toward behaviour b.
+    #[tactic(auto, using(lib_base::proofs::Pick::branches), unfolding(crate::specs::Marks::mark_step))]
+    fn read(&mut self, rows: &[u64; ROW], b: usize, x: u64)
+        requires { b < behaviour_limit }
+        ensures { standing self.new.marks self.new.depth
+            ≡ mark_step (λ k. bit (get_or rows.now k 0) b) b (standing self.old.marks self.old.depth) x }
+    {
+        let w = x % layout::WORD;
+        match x / layout::WORD {
+            layout::NAME => self.push(name_mark(rows, b, w)),
+            layout::APPLICATION => self.apply(w),
+            _ => self.push(Mark::Apart),
+        }
     }
-    if x / layout::WORD == layout::APPLICATION {
-        return apply_mark(x % layout::WORD, s);
-    }
-    push_mark(s, APART)
 }
 
 // The mark of the expression of entry v of behaviour i, toward i.
-fn mark_in(d: &Draft, rows: &[u64; ROW], i: usize, v: u64) -> u64
+fn mark_in(d: &Draft, rows: &[u64; ROW], i: usize, v: u64) -> Mark
     requires { (i < behaviour_limit) × (entry_start v + entry_count v ≤ draft_nodes) }
-    ensures { result ≡ mark_in d.now rows.now i v }
+    ensures { mark_number result ≡ mark_in d.now rows.now i v }
 {
     let start = (v / layout::KINDS % layout::FIRSTS) as usize;
     let count = (v / layout::COUNTS) as usize;
-    let mut s = 0;
+    let mut stack = Stack {
+        marks: [Mark::Apart; ROOM],
+        depth: 0,
+    };
     for node in &d[start..start + count] {
-        s = mark_node(rows, i, s, draft_form::moved_node(d, i, *node));
+        stack.read(rows, i, draft_form::moved_node(d, i, *node));
     }
-    s
+    stack.pop()
 }
 
 // The set without j.
@@ -193,7 +208,7 @@ fn strict_at(d: &Draft, rows: &[u64; ROW], n: usize, i: usize, v: u64) -> u64
     ensures { (e : ℕ) → v ≡ entry_of d.now e i → Gathers behaviour_limit result (strict_at_on d.now rows.now n e i) }
 {
     let names = check_reads::add_rows(rows, check_reads::names_in(d, i, v), n);
-    with_member(names, i, mark_in(d, rows, i, v) != ADDS)
+    with_member(names, i, mark_in(d, rows, i, v) != Mark::Adds)
 }
 
 // The set with that, where the entry is a handler of one of the others.
