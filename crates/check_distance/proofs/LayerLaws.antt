@@ -127,13 +127,13 @@ module _ (m : List ℕ) (n i : ℕ) where
       let c : n - k ≡ suc (n - (k + 1)) = omega arith in
       let step : least_from home (suc (n - (k + 1))) (k + 1) ≡ k + 1 = rw (e, least_from) in
       let z : k + 1 - 1 ≡ k = omega arith in
-      record { steps = sym step ∙ (rw c at w.whole); layers = λ t. rw z w.walks }
+      record { steps = sym step ∙ (rw c at w.whole); few = omega arith; layers = rw z w.walks }
 
-  pub trying_end : {s : List ℕ} {k : ℕ} → Trying s k → k ≡ n → Back m n i (n + 1) s
+  pub trying_end : {s : List ℕ} {k : ℕ} → Trying s k → k ≡ n → steps_back dep n i ≡ n + 1
   unfolding least_from steps_back
   trying_end {s} {k} w z =
       let c : n - k ≡ 0 = omega arith in
-      record { steps = rw z at (rw c at w.whole); layers = λ t. absurd (omega arith) }
+      sym (rw z at (rw c at w.whole))
 
   -- where a level is empty all that follow are
   none_later : (k : ℕ) → ((j : ℕ) → j < n → layer dep n k i j ≡ false) → (x : ℕ) → k ≤ x → (j : ℕ) → j < n → layer dep n x i j ≡ false
@@ -149,10 +149,10 @@ module _ (m : List ℕ) (n i : ℕ) where
   least_none f zero a e = omega arith
   least_none f (suc k) a e = rw (e a (omega arith), least_from) (least_none f k (suc a) (λ x b. e x (omega arith)) ∙ omega arith)
 
-  pub trying_none : {s : List ℕ} {k : ℕ} → Trying s k → i < n → k < n → get_or s k 0 ≡ 0 → Back m n i (n + 1) s
+  pub trying_none : {s : List ℕ} {k : ℕ} → Trying s k → i < n → k < n → get_or s k 0 ≡ 0 → steps_back dep n i ≡ n + 1
   unfolding steps_back
   trying_none {s} {k} w b l h =
       let e : (j : ℕ) → j < n → layer dep n k i j ≡ false = λ j c. sym (w.walks.walks k j (omega arith) c) ∙ rw h (bit_none j) in
       let later : (x : ℕ) → k + 1 ≤ x → home x ≡ false = λ x c. none_later k e x (omega arith) i b in
       let z : k + 1 + (n - k) ≡ n + 1 = omega arith in
-      record { steps = rw z at (sym (least_none home (n - k) (k + 1) later) ∙ w.whole); layers = λ t. absurd (omega arith) }
+      sym w.whole ∙ least_none home (n - k) (k + 1) later ∙ z

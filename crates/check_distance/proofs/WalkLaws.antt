@@ -1,8 +1,8 @@
 -- What the loop that lists a walk keeps: those listed lead from i to where it stands, and from there as many steps as
 -- are left lead to i.
-use Rattle.lib_base.proofs.Prelude.{ℕ, ◌≤◌, ◌<◌, ◌+◌, ◌-◌, suc, ◌≡◌, refl, ◌∙◌, sym, ap, subst, true, Bool, ◌&&◌}
+use Rattle.lib_base.proofs.Prelude.{ℕ, ◌≤◌, ◌<◌, ◌+◌, ◌-◌, suc, ◌≡◌, ◌∙◌, sym, ap, subst, true, Bool, ◌&&◌}
 use Rattle.lib_base.proofs.Prelude.{and-eq-true_iff, List, [], ◌∷◌, ◌++◌, append_assoc, length, get_or, drop, length-set}
-use Rattle.lib_base.proofs.Prelude.{set, length-append, drop-cons, sub-zero, add-one, eqb-true, arith}
+use Rattle.lib_base.proofs.Prelude.{set, length-append, drop-cons, add-one, eqb-true, arith}
 use lib.Seq.{set_at}
 use Rattle.lib_base.specs.Basics.{All}
 use Rattle.lib_base.proofs.Tools.{all_join}

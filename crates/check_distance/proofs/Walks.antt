@@ -15,11 +15,6 @@ use Rattle.check_distance.proofs.Shorter.{straight, reach_chain, chain_below, di
 
 -- ---- the least
 
-pub least_most : (f : ℕ → Bool) (k a : ℕ) → least_from f k a ≤ a + k
-unfolding least_from
-least_most f zero a = omega arith
-least_most f (suc k) a = by_elim (λ x. x ≤ a + suc k) (f a) (λ e. omega arith) (λ e. omega (arith, least_most f k (suc a)))
-
 pub least_from_law : (f : ℕ → Bool) (k a : ℕ) → a ≤ least_from f k a
 unfolding least_from
 least_from_law f zero a = omega arith

@@ -1,6 +1,6 @@
 -- Walks that end at behaviour i, by their number of steps, on rows of 64 bits (crate check_graph) as the matrix m that
 -- they stand for, cell m j h, that j depends on h; bit (get_or s k 0) j, that there is a walk of k steps from j.
-use Rattle.std.specs.Prelude.{ℕ, zero, suc, ◌-◌, ◌≤◌, ◌<◌, Bool, true, false, ◌&&◌, ◌≡◌, List, ◌++◌, eqb, length, get_or, drop}
+use Rattle.std.specs.Prelude.{ℕ, zero, suc, ◌+◌, ◌-◌, ◌≤◌, ◌<◌, Bool, true, false, ◌&&◌, ◌≡◌, List, ◌++◌, eqb, length, get_or, drop, Option, Some, None}
 use Rattle.lib_base.specs.Basics.{All}
 use Rattle.lib_bits.specs.Bits.{bit}
 use Rattle.check_graph.specs.Any.{any_below}
@@ -35,10 +35,16 @@ pub record Leading (m : List ℕ) (n set set' : ℕ) : Type 0 where
 pub record Layered (m : List ℕ) (n i : ℕ) (s : List ℕ) (k : ℕ) : Type 0 where
   pub walks : (q j : ℕ) → q ≤ k → j < n → bit (get_or s q 0) j ≡ layer (λ a b. cell m a b) n q i j
 
--- r steps lead from i back to i, and s has the walks of fewer
+-- r steps lead from i back to i, at most n, and s has the walks of fewer
 pub record Back (m : List ℕ) (n i r : ℕ) (s : List ℕ) : Type 0 where
   pub steps : r ≡ steps_back (λ a b. cell m a b) n i
-  pub layers : r ≤ n → Layered m n i s (r - 1)
+  pub few : r ≤ n
+  pub layers : Layered m n i s (r - 1)
+
+-- how many steps lead from i back to i; none if there is no such walk
+abbrev pub BackIfAny : List ℕ → ℕ → ℕ → Option ℕ → List ℕ → Type 0
+BackIfAny m n i None s = steps_back (λ a b. cell m a b) n i ≡ n + 1
+BackIfAny m n i (Some r) s = Back m n i r s
 
 -- r of the first n, each depending on the next and the last on the first, are the first bytes of the list; its other
 -- bytes are as they were

@@ -10,7 +10,7 @@ ghost use Rattle.check_graph.specs.Any.{any_below};
 ghost use Rattle.check_graph.specs.First.{FirstOf};
 ghost use Rattle.check_graph.specs.Matrix.{cell};
 ghost use Rattle.check_graph.specs.Sets.{RowsBelow, bytes_of};
-ghost use Rattle.check_distance.specs.Layers.{layer, Leading, Layered, Back, Walked};
+ghost use Rattle.check_distance.specs.Layers.{layer, Leading, Layered, BackIfAny, Walked};
 ghost use Rattle.spec_language.specs.Limits.{behaviour_limit};
 
 use check_graph::ROW;
@@ -56,25 +56,30 @@ fn leading_to(rows: &[u64; ROW], set: u64, n: usize) -> u64
     found
 }
 
-// How many steps lead from i back to i, at most n; n + 1 if there is no such walk. Level k is the set of those with a
+// How many steps lead from i back to i, at most n; none if there is no such walk. Level k is the set of those with a
 // walk of k steps to i.
-pub fn steps_back(rows: &[u64; ROW], levels: &mut [u64; LEVELS], i: usize, n: usize) -> usize
+#[tactic(auto, using(crate::proofs::LayerLaws::trying_none))]
+pub fn steps_back(
+    rows: &[u64; ROW],
+    levels: &mut [u64; LEVELS],
+    i: usize,
+    n: usize,
+) -> Option<usize>
     requires { (i < n) × (n ≤ behaviour_limit) × RowsBelow rows.now n }
-    ensures back { Back (bytes_of rows.now) n i result levels.new }
-    ensures upper_bound { result ≤ n + 1 }
+    ensures { BackIfAny (bytes_of rows.now) n i result levels.new }
 {
     levels[0] = lib_bits::insert(0, i);
     for k in 0..n {
         let level = levels[k];
         if level == 0 {
-            return n + 1;
+            return None;
         }
         if is_common(rows[i], level) {
-            return k + 1;
+            return Some(k + 1);
         }
         levels[k + 1] = leading_to(rows, level, n);
     }
-    n + 1
+    None
 }
 
 // The members of such a walk of r steps, in the first r bytes of the list.

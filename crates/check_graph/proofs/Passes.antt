@@ -1,10 +1,10 @@
 -- A pass through k changes the rows as it changes the matrix, so that after all of them the rows are those of the
 -- closed matrix: row by row, and pass by pass.
-use Rattle.lib_base.proofs.Prelude.{ℕ, ◌≤◌, ◌<◌, ◌+◌, ◌≡◌, refl, ◌∙◌, sym, subst, Bool, ◌||◌, ◌&&◌, ◌≢◌, by_cases, List}
-use Rattle.lib_base.proofs.Prelude.{length, get_or, set, get_or-set_other, get_or-set_same, add-one, dec_lt, arith}
+use Rattle.lib_base.proofs.Prelude.{ℕ, ◌≤◌, ◌<◌, ◌+◌, ◌≡◌, ◌∙◌, sym, subst, Bool, ◌||◌, ◌&&◌, List}
+use Rattle.lib_base.proofs.Prelude.{length, get_or, add-one, arith}
 use Rattle.lib_bits.specs.Bits.{bit}
 use Rattle.check_graph.specs.Matrix.{cell, close_by, closed}
-use Rattle.check_graph.specs.Sets.{bytes_of, TakenIn, PassedThrough, ClosedRows}
+use Rattle.check_graph.specs.Sets.{bytes_of, PassedThrough, ClosedRows}
 use Rattle.check_graph.proofs.Closure.{length_close_by, pass_is}
 use Rattle.check_graph.proofs.SetLaws.{cell_bytes_law, length_bytes}
 
@@ -17,19 +17,6 @@ after rows k j b = bit (get_or rows j 0) b || (bit (get_or rows j 0) k && bit (g
 pub record Passing (rows₀ : List ℕ) (k n : ℕ) (rows : List ℕ) (i : ℕ) : Type 0 where
   pub done : (j : ℕ) → j < i → (b : ℕ) → bit (get_or rows j 0) b ≡ after rows₀ k j b
   pub left : (j : ℕ) → i ≤ j → get_or rows j 0 ≡ get_or rows₀ j 0
-
-pub passing_turn : {rows₀ rows : List ℕ} {k n i through r : ℕ} → Passing rows₀ k n rows i → length rows ≡ 64 → n ≤ 64 → i < n → through ≡ get_or rows₀ k 0
-    → TakenIn (get_or rows i 0) through k r → Passing rows₀ k n (set rows i r) (i + 1)
-passing_turn {rows₀} {rows} {k} {n} {i} {through} {r} p l few h q t =
-    let long : i < length rows = omega arith in
-    let same : get_or (set rows i r) i 0 ≡ r = get_or-set_same rows i r 0 long in
-    let other : (j : ℕ) → j ≢ i → get_or (set rows i r) j 0 ≡ get_or rows j 0 = λ j d. get_or-set_other rows i j r 0 d in
-    let here : (b : ℕ) → bit r b ≡ after rows₀ k i b = λ b. rw (p.left i (omega arith), q) at (t.each b) in
-    record {
-      done = λ j c b. by_cases (dec_lt j i) (λ s. rw (other j (omega arith)) (p.done j s b))
-          (λ s. let e : i ≡ j = omega arith in subst (λ (x : ℕ). bit (get_or (set rows i r) x 0) b ≡ after rows₀ k x b) e (rw same (here b)));
-      left = λ j c. other j (omega arith) ∙ p.left j (omega arith);
-    }
 
 -- ---- the first k are passed through
 

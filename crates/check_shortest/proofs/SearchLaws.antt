@@ -1,72 +1,19 @@
--- The least packed number is that of some behaviour on some event, if there is a circle at all; no circle has fewer
--- members than it has steps.
-use Rattle.lib_base.proofs.Prelude.{ℕ, ◌≤◌, ◌<◌, ◌+◌, ◌-◌, suc, zero, ◌*◌, ◌%◌, ◌/◌, ◌≡◌, refl, ◌∙◌, true, false}
-use Rattle.lib_base.proofs.Prelude.{by_cases, ◌⊎◌, ⊎_elim, inr, inl, List, [], ◌∷◌, ◌++◌, length, take, drop}
-use Rattle.lib_base.proofs.Prelude.{take-append_seam, ltb, add-one, dec_lt, ne_eqb}
-use Rattle.lib_base.proofs.Prelude.{le-ltb, lt-ltb, leb-true, arith}
-use Prim.Native.Nat.{min}
+-- The search passes every behaviour in every turn, and finds a walk if there is a circle at all; no circle has fewer
+-- members than that walk has steps.
+use Rattle.lib_base.proofs.Prelude.{ℕ, ◌≤◌, ◌<◌, ◌+◌, ◌-◌, suc, zero, ◌*◌, ◌≡◌, refl, ◌∙◌, sym, ap, true, false}
+use Rattle.lib_base.proofs.Prelude.{by_cases, ◌⊎◌, inr, inl, List, [], ◌∷◌, ◌++◌, length, take, drop}
+use Rattle.lib_base.proofs.Prelude.{take-append_seam, ltb, dec_lt, ne_eqb}
+use Rattle.lib_base.proofs.Prelude.{le-ltb, lt-ltb, leb-true, lt-leb, le-leb, arith}
+use Rattle.std.specs.Prelude.{Option, Some, None, IsSome}
 use Rattle.check_graph.specs.Matrix.{cell, cell_below}
 use Rattle.check_graph.proofs.Any.{any_member}
 use Rattle.check_faults.specs.Checks.{matrix_on, closed_on, cyclic_on}
 use Rattle.check_distance.specs.Circle.{Circle}
-use Rattle.check_distance.specs.Layers.{layer, steps_back, Layered, Back, Walked}
-use Rattle.check_distance.proofs.Walks.{least_most, least_from_law, least_holds, circle_back, back_decides, layer_same, back_same, walked_same}
-use Rattle.check_shortest.specs.Search.{back_on, event_of_turn, packed_circle, best_of, best_all, shortest_on, Wide, CircleMembers, handed, ShortestFound}
+use Rattle.check_distance.specs.Layers.{layer, steps_back, Layered, Back, BackIfAny, Walked}
+use Rattle.check_distance.proofs.Walks.{least_from_law, least_holds, circle_back, back_decides, layer_same, back_same, walked_same}
+use Rattle.check_shortest.specs.Search.{back_on, event_of_turn, shorter_of, Passed, Fewest, FewestIfAny, Wide, CircleMembers, handed, ShortestFound}
+use Rattle.check_shortest.specs.declared.Walk.{Walk}
 use Rattle.check_shortest.specs.EventNumber.{event_number}
-
--- ---- the lower of two
-
-lower_is : (a b : ℕ) → (min a b ≡ a) ⊎ (min a b ≡ b)
-lower_is a b = by_cases (dec_lt b a) (λ t. inr (omega arith)) (λ t. inl (omega arith))
-
-module _ (d : List ℕ) (n : ℕ) where
-  -- ---- on one event
-
-  module _ (e t : ℕ) where
-    best_most : (k b : ℕ) → best_of d e t n k b ≤ b
-    unfolding best_of
-    best_most zero b = omega arith
-    best_most (suc k) b = omega (arith, best_most k b)
-
-    best_le : (k b i : ℕ) → i < k → best_of d e t n k b ≤ packed_circle d e t n i
-    unfolding best_of
-    best_le zero b i h = absurd (omega arith)
-    best_le (suc k) b i h =
-        by_cases (dec_lt i k) (λ s. omega (arith, best_le k b i s))
-        (λ s. let q : i ≡ k = omega arith in rw q (omega arith))
-
-    best_is : (k b : ℕ) → (best_of d e t n k b ≡ b) ⊎ ((i : ℕ) × (i < k) × (best_of d e t n k b ≡ packed_circle d e t n i))
-    unfolding best_of
-    best_is zero b = inl refl
-    best_is (suc k) b =
-        ⊎_elim
-        (λ q. ⊎_elim (λ p. inl (q ∙ p)) (λ w. inr (w.0, omega (arith, w.1), q ∙ w.2)) (best_is k b))
-        (λ q. inr (k, omega arith, q))
-        (lower_is (best_of d e t n k b) (packed_circle d e t n k))
-
-  -- ---- on all
-
-  module _ (ev : ℕ) where
-    all_most : (k b : ℕ) → best_all d ev n k b ≤ b
-    unfolding best_all
-    all_most zero b = omega arith
-    all_most (suc t) b = omega (arith, all_most t b, best_most (event_of_turn ev t) t n (best_all d ev n t b))
-
-    all_le : (k b t i : ℕ) → t < k → i < n → best_all d ev n k b ≤ packed_circle d (event_of_turn ev t) t n i
-    unfolding best_all
-    all_le zero b t i h c = absurd (omega arith)
-    all_le (suc k) b t i h c =
-        by_cases (dec_lt t k) (λ s. omega (arith, all_le k b t i s c, best_most (event_of_turn ev k) k n (best_all d ev n k b)))
-        (λ s. let q : t ≡ k = omega arith in rw q (best_le (event_of_turn ev k) k n (best_all d ev n k b) i c))
-
-    all_is : (k b : ℕ) → (best_all d ev n k b ≡ b) ⊎ ((t i : ℕ) × (t < k) × (i < n) × (best_all d ev n k b ≡ packed_circle d (event_of_turn ev t) t n i))
-    unfolding best_all
-    all_is zero b = inl refl
-    all_is (suc k) b =
-        ⊎_elim
-        (λ q. ⊎_elim (λ p. inl (q ∙ p)) (λ w. inr (w.0, w.1, omega (arith, w.2), w.3, q ∙ w.4)) (all_is k b))
-        (λ w. inr (k, w.0, omega arith, w.1, w.2))
-        (best_is (event_of_turn ev k) k n (best_all d ev n k b))
 
 -- ---- the turns
 
@@ -87,11 +34,7 @@ turn_declared : (ev t : ℕ) → t ≤ ev → event_of_turn ev t ≤ ev
 turn_declared ev zero h = rw (turn_none ev) (omega arith)
 turn_declared ev (suc t) h = rw (turn_more ev t) (omega arith)
 
--- ---- what is found
-
-back_most : (d : List ℕ) (e n i : ℕ) → back_on d e n i ≤ n + 1
-unfolding back_on steps_back
-back_most d e n i = omega (arith, least_most (λ k. layer (λ a b. cell (matrix_on d e n) a b) n k i i) n 1)
+-- ---- the steps back
 
 back_least : (d : List ℕ) (e n i : ℕ) → 1 ≤ back_on d e n i
 unfolding back_on steps_back
@@ -101,16 +44,18 @@ pub back_holds : (d : List ℕ) (e n i : ℕ) → back_on d e n i ≤ n → laye
 unfolding back_on steps_back
 back_holds d e n i h = least_holds (λ k. layer (λ a b. cell (matrix_on d e n) a b) n k i i) n 1 (omega arith)
 
--- the least packed number: of behaviour i on the event of turn t
-pub record Best (d : List ℕ) (ev n b : ℕ) : Type 0 where
-  pub event : event_of_turn ev (b / 64 % 64) ≤ ev
-  pub member : b % 64 < n
-  pub few : back_on d (event_of_turn ev (b / 64 % 64)) n (b % 64) ≤ n
-  pub some : 1 ≤ back_on d (event_of_turn ev (b / 64 % 64)) n (b % 64)
-  pub least : (f j : ℕ) → f ≤ ev → j < n → back_on d (event_of_turn ev (b / 64 % 64)) n (b % 64) ≤ back_on d f n j
-  pub none_first : (j : ℕ) → j < n → back_on d ev n j ≤ back_on d (event_of_turn ev (b / 64 % 64)) n (b % 64) → event_of_turn ev (b / 64 % 64) ≡ ev
+-- ---- what is found
 
-module _ (d : List ℕ) (ev n : ℕ) (few : n ≤ 64) (events : ev ≤ 32) (long : Wide d ev n) where
+-- walk w, of the fewest steps on all events and none
+pub record Best (d : List ℕ) (ev n : ℕ) (w : Walk) : Type 0 where
+  pub event : w.event ≤ ev
+  pub member : w.behaviour < n
+  pub steps : w.steps ≡ back_on d w.event n w.behaviour
+  pub few : w.steps ≤ n
+  pub least : (f j : ℕ) → f ≤ ev → j < n → w.steps ≤ back_on d f n j
+  pub none_first : (j : ℕ) → j < n → back_on d ev n j ≤ w.steps → w.event ≡ ev
+
+module _ (d : List ℕ) (ev n : ℕ) (few : n ≤ 64) (long : Wide d ev n) where
   -- a circle on some event leads back in at most n steps
   cyclic_back : cyclic_on d ev n ≡ true → (e a : ℕ) × (e ≤ ev) × (a < n) × (back_on d e n a ≤ n)
   unfolding cyclic_on closed_on back_on
@@ -121,65 +66,48 @@ module _ (d : List ℕ) (ev n : ℕ) (few : n ≤ 64) (events : ev ≤ 32) (long
       let b = leb-true (steps_back (λ x y. cell m x y) n v.0) n (back_decides m n (long w.0 (omega (arith, w.1))) few v.0 v.1 ∙ v.2) in
       (w.0, v.0, omega (arith, w.1), v.1, b)
 
-  unpacked : (s t i b : ℕ) → t < 64 → i < 64 → b ≡ (s * 64 + t) * 64 + i → (b / 64 % 64 ≡ t) × (b % 64 ≡ i)
-  unpacked s t i b h k q = (omega arith, omega arith)
-
-  -- no other number is lower
-  others : (f j : ℕ) → f ≤ ev → j < n → (t : ℕ) × (t ≤ ev) × (event_of_turn ev t ≡ f) × (shortest_on d ev n ≤ packed_circle d f t n j)
-  unfolding shortest_on
-  others f j h g =
-      let w = has_turn ev f h in
-      (w.0, w.1, w.2, rw w.2 at (all_le d n ev (ev + 1) 300000 w.0 j (omega (arith, w.1)) g))
-
-  first : (j : ℕ) → j < n → shortest_on d ev n ≤ packed_circle d ev 0 n j
-  unfolding shortest_on
-  first j g = rw (turn_none ev) at (all_le d n ev (ev + 1) 300000 0 j (omega arith) g)
-
-  found_as : (t i : ℕ) → t ≤ ev → i < n → shortest_on d ev n ≡ packed_circle d (event_of_turn ev t) t n i → (f j : ℕ) → f ≤ ev → j < n → back_on d f n j ≤ n → Best d ev n (shortest_on d ev n)
-  found_as t i h k q f j a g c =
-      let e = event_of_turn ev t in
-      let u = unpacked (back_on d e n i) t i (shortest_on d ev n) (omega arith) (omega arith) q in
-      let le : (f j : ℕ) → f ≤ ev → j < n → back_on d e n i ≤ back_on d f n j =
-      λ f j a g. let w = others f j a g in omega (arith, w.1, w.3, q) in
-      record {
-        event = rw u.0 (turn_declared ev t h);
-        member = rw u.1 k;
-        few = rw (u.0, u.1) (omega (arith, le f j a g));
-        some = rw (u.0, u.1) (back_least d e n i);
-        least = rw (u.0, u.1) le;
-        none_first = rw (u.0, u.1) (λ x y z. let o : t ≡ 0 = omega (arith, first x y, q) in rw o (turn_none ev));
-      }
-
-  found_any : (shortest_on d ev n ≡ 300000) ⊎ ((t i : ℕ) × (t < ev + 1) × (i < n) × (shortest_on d ev n ≡ packed_circle d (event_of_turn ev t) t n i))
-  unfolding shortest_on
-  found_any = all_is d n ev (ev + 1) 300000
-
-  pub best_found : cyclic_on d ev n ≡ true → Best d ev n (shortest_on d ev n)
-  best_found h =
+  -- once all turns are passed, each behaviour is on each event
+  pub found_some : cyclic_on d ev n ≡ true → (o : Option Walk) → FewestIfAny d ev n (ev + 1) 0 o → IsSome o
+  found_some h None none =
       let c = cyclic_back h in
-      let o = others c.0 c.1 c.2 c.3 in
-      ⊎_elim
-      (λ q. absurd (omega (arith, q, o.1, o.3, c.3, c.4)))
-      (λ w. found_as w.0 w.1 (omega (arith, w.2)) w.3 w.4 c.0 c.1 c.2 c.3 c.4)
-      found_any
+      let w = has_turn ev c.0 c.2 in
+      let past = none w.0 c.1 (c.3, inl (omega (arith, w.1))) in
+      absurd (omega (arith, rw w.2 at past, c.4))
+  found_some h (Some w) f = refl
+
+  pub best_is : (w : Walk) → Fewest d ev n (ev + 1) 0 w → Best d ev n w
+  best_is w f = record {
+    event = rw f.event (turn_declared ev f.turn (turn_passed f.passed.1));
+    member = f.passed.0;
+    steps = f.steps;
+    few = f.few;
+    least = λ e j h b. let t = has_turn ev e h in
+        rw t.2 at (f.least t.0 j (b, inl (omega (arith, t.1))));
+    none_first = λ j b h. first f.turn (λ p. let q = f.earlier 0 j (b, inl (omega arith)) p in omega (arith, rw (turn_none ev) at q, h)) f.event;
+  }
+    where
+      turn_passed : {t j : ℕ} → (t < ev + 1) ⊎ ((t ≡ ev + 1) × (j < 0)) → t ≤ ev
+      turn_passed (inl h) = omega arith
+      turn_passed (inr h) = absurd (omega (arith, h.1))
+
+      first : (t : ℕ) → (0 < t → ⊥) → w.event ≡ event_of_turn ev t → w.event ≡ ev
+      first t z q = let o : t ≡ 0 = by_cases (dec_lt 0 t) (λ p. absurd (z p)) (λ p. omega arith) in q ∙ ap (event_of_turn ev) o ∙ turn_none ev
 
   -- no circle has fewer members
-  pub none_shorter : (b : ℕ) → Best d ev n b → (f : ℕ) → f ≤ ev → (l : List ℕ) → Circle (cell_below n (matrix_on d f n)) l
-      → back_on d (event_of_turn ev (b / 64 % 64)) n (b % 64) ≤ length l
+  pub none_shorter : (w : Walk) → Best d ev n w → (f : ℕ) → f ≤ ev → (l : List ℕ) → Circle (cell_below n (matrix_on d f n)) l → w.steps ≤ length l
   unfolding back_on
-  none_shorter b w f h [] c = absurd c
-  none_shorter b w f h (a ∷ l) c =
+  none_shorter w b f h [] c = absurd c
+  none_shorter w b f h (a ∷ l) c =
       let v = circle_back (matrix_on d f n) n a l c in
-      omega (arith, w.least f a h v.0, v.1)
+      omega (arith, b.least f a h v.0, v.1)
 
   -- where one under none has as few, none is found
-  pub none_goes_first : (b : ℕ) → Best d ev n b → (l : List ℕ) → Circle (cell_below n (matrix_on d ev n)) l
-      → length l ≤ back_on d (event_of_turn ev (b / 64 % 64)) n (b % 64) → event_of_turn ev (b / 64 % 64) ≡ ev
+  pub none_goes_first : (w : Walk) → Best d ev n w → (l : List ℕ) → Circle (cell_below n (matrix_on d ev n)) l → length l ≤ w.steps → w.event ≡ ev
   unfolding back_on
-  none_goes_first b w [] c h = absurd c
-  none_goes_first b w (a ∷ l) c h =
+  none_goes_first w b [] c h = absurd c
+  none_goes_first w b (a ∷ l) c h =
       let v = circle_back (matrix_on d ev n) n a l c in
-      w.none_first a v.0 (omega (arith, v.1))
+      b.none_first a v.0 (omega (arith, v.1))
 
 -- ---- the loops
 
@@ -191,13 +119,76 @@ pub back_as : (d : List ℕ) (e n i : ℕ) {m s : List ℕ} {r : ℕ} → Alike 
 unfolding back_on
 back_as d e n i {m} q b w = w.steps ∙ back_same n (λ x y. cell m x y) (λ x y. cell (matrix_on d e n) x y) q i b
 
-pub trying_turn : (d : List ℕ) (e t n b i : ℕ) {least r v : ℕ} → least ≡ best_of d e t n i b → r ≡ back_on d e n i → v ≡ min least ((r * 64 + t) * 64 + i) → v ≡ best_of d e t n (i + 1) b
-unfolding best_of
-trying_turn d e t n b i w q p = rw (add-one i) (p ∙ rw (q, w))
+pub back_none : (d : List ℕ) (e n i : ℕ) (m : List ℕ) → Alike m d e n → i < n → steps_back (λ a b. cell m a b) n i ≡ n + 1 → n < back_on d e n i
+unfolding back_on
+back_none d e n i m q b w = let z = back_same n (λ x y. cell m x y) (λ x y. cell (matrix_on d e n) x y) q i b in omega (arith, z, w)
 
-pub passing_turn : (d : List ℕ) (ev n t : ℕ) {least e v : ℕ} → least ≡ best_all d ev n t 300000 → e ≡ event_of_turn ev t → v ≡ best_of d e t n n least → v ≡ best_all d ev n (t + 1) 300000
-unfolding best_all
-passing_turn d ev n t p z q = rw (add-one t) (q ∙ rw (z, p))
+-- the next behaviour
+module _ (d : List ℕ) (e ev n t i : ℕ) (q : e ≡ event_of_turn ev t) (b : i < n) where
+  -- one passed now was passed before, or is the next
+  passed_one : {Q : Type 0} (u j : ℕ) → Passed n t (i + 1) u j → (Passed n t i u j → Q) → (u ≡ t → j ≡ i → Q) → Q
+  passed_one u j (h, inl p) old new = old (h, inl p)
+  passed_one u j (h, inr p) old new =
+      by_cases (dec_lt j i) (λ s. old (h, inr (p.0, s))) (λ s. new p.0 (omega (arith, p.1)))
+
+  more : {u j : ℕ} → Passed n t i u j → Passed n t (i + 1) u j
+  more (h, inl p) = (h, inl p)
+  more (h, inr p) = (h, inr (p.0, omega (arith, p.1)))
+
+  not_later : {u j : ℕ} → Passed n t i u j → u ≤ t
+  not_later (h, inl p) = omega arith
+  not_later (h, inr p) = omega (arith, p.0)
+
+  here : (u j : ℕ) → u ≡ t → j ≡ i → back_on d (event_of_turn ev u) n j ≡ back_on d e n i
+  here u j x y = rw (x, y, q)
+
+  -- without a walk back
+  pub next_none : (o : Option Walk) → FewestIfAny d ev n t i o → n < back_on d e n i → FewestIfAny d ev n t (i + 1) o
+  next_none None f h = λ u j p. passed_one u j p (f u j) (λ x y. omega (arith, here u j x y))
+  next_none (Some w) f h = record {
+    turn = f.turn;
+    event = f.event;
+    passed = more f.passed;
+    steps = f.steps;
+    few = f.few;
+    least = λ u j p. passed_one u j p (f.least u j) (λ x y. omega (arith, here u j x y, f.few));
+    earlier = λ u j p l. passed_one u j p (λ o. f.earlier u j o l) (λ x y. omega (arith, here u j x y, f.few));
+  }
+
+  module _ (r : ℕ) (s : r ≡ back_on d e n i) (h : r ≤ n) where
+    abbrev walk : Walk
+    walk = record { steps = r; event = e; behaviour = i }
+
+    -- it is shorter than all before
+    taken_walk : ((u j : ℕ) → Passed n t i u j → r < back_on d (event_of_turn ev u) n j) → Fewest d ev n t (i + 1) walk
+    taken_walk f = record {
+      turn = t;
+      event = q;
+      passed = (b, inr (refl, omega arith));
+      steps = s;
+      few = h;
+      least = λ u j p. passed_one u j p (λ o. omega (arith, f u j o)) (λ x y. omega (arith, here u j x y, s));
+      earlier = λ u j p l. passed_one u j p (f u j) (λ x y. absurd (omega arith));
+    }
+
+    kept_walk : (w : Walk) → Fewest d ev n t i w → w.steps ≤ r → Fewest d ev n t (i + 1) w
+    kept_walk w f k = record {
+      turn = f.turn;
+      event = f.event;
+      passed = more f.passed;
+      steps = f.steps;
+      few = f.few;
+      least = λ u j p. passed_one u j p (f.least u j) (λ x y. omega (arith, here u j x y, s, k));
+      earlier = λ u j p l. passed_one u j p (λ o. f.earlier u j o l) (λ x y. absurd (omega (arith, not_later f.passed)));
+    }
+
+    pub next_walk : (o : Option Walk) → FewestIfAny d ev n t i o → Fewest d ev n t (i + 1) (shorter_of o walk)
+    unfolding shorter_of
+    next_walk None f = taken_walk (λ u j p. omega (arith, f u j p))
+    next_walk (Some w) f =
+        by_cases (dec_lt r w.steps)
+        (λ l. rw (lt-leb w.steps r l) (taken_walk (λ u j p. omega (arith, f.least u j p))))
+        (λ l. let k : w.steps ≤ r = omega arith in rw (le-leb w.steps r k) (kept_walk w f k))
 
 -- the event of a turn is declared, or none
 pub turn_event : (ev t : ℕ) {e : ℕ} → t ≤ ev → e ≡ event_of_turn ev t → e ≤ ev
@@ -205,18 +196,20 @@ turn_event ev t h q = rw q (turn_declared ev t h)
 
 -- ---- a walk, listed
 
-module _ (d : List ℕ) (e n i : ℕ) (h : back_on d e n i ≤ n) {m s : List ℕ} {r : ℕ} (q : Alike m d e n) (b : i < n) (k : Back m n i r s) where
-  pub back_few : r ≤ n
-  back_few = omega (arith, back_as d e n i q b k)
+module _ (d : List ℕ) (e n i : ℕ) (h : back_on d e n i ≤ n) (m : List ℕ) (q : Alike m d e n) (b : i < n) where
+  pub walk_there : (s : List ℕ) (o : Option ℕ) → BackIfAny m n i o s → IsSome o
+  walk_there s None w = absurd (omega (arith, back_none d e n i m q b w))
+  walk_there s (Some r) w = refl
 
-  pub back_ready : (0 < r) × Layered m n i s (r - 1) × (layer (λ x y. cell m x y) n r i i ≡ true)
-  back_ready =
-      let z = back_as d e n i q b k in
-      let t = layer_same n (λ x y. cell m x y) (λ x y. cell (matrix_on d e n) x y) q r i i b in
-      (omega (arith, z, back_least d e n i), k.layers back_few, t ∙ rw z (back_holds d e n i h))
+  module _ {s : List ℕ} {r : ℕ} (k : Back m n i r s) where
+    pub back_ready : (0 < r) × Layered m n i s (r - 1) × (layer (λ x y. cell m x y) n r i i ≡ true)
+    back_ready =
+        let z = back_as d e n i q b k in
+        let t = layer_same n (λ x y. cell m x y) (λ x y. cell (matrix_on d e n) x y) q r i i b in
+        (omega (arith, z, back_least d e n i), k.layers, t ∙ rw z (back_holds d e n i h))
 
-  pub members_are : {list list' : List ℕ} → Walked m n r list list' → CircleMembers d e n i r list list'
-  members_are l = record { steps = back_as d e n i q b k; walked = walked_same m (matrix_on d e n) q l }
+    pub members_are : {list list' : List ℕ} → Walked m n r list list' → CircleMembers d e n i r list list'
+    members_are l = record { steps = back_as d e n i q b k; walked = walked_same m (matrix_on d e n) q l }
 
 -- the list with them
 taken_of : (r : ℕ) (l o rest : List ℕ) → l ≡ o ++ drop r rest → length o ≡ r → take r l ≡ o
@@ -224,40 +217,28 @@ taken_of r l o rest q c = rw (q, ← c) (take-append_seam o (drop (length o) res
 
 -- ---- what is found
 
-pub best_as : (d : List ℕ) (ev n : ℕ) → n ≤ 64 → ev ≤ 32 → Wide d ev n → cyclic_on d ev n ≡ true → {b : ℕ} → b ≡ shortest_on d ev n → Best d ev n b
-best_as d ev n few events long h q = rw q (best_found d ev n few events long h)
-
-module _ (d : List ℕ) (ev n : ℕ) {b : ℕ} (w : Best d ev n b) {e : ℕ} (q : e ≡ event_of_turn ev (b / 64 % 64)) where
-  pub event_here : e ≤ ev
-  event_here = rw q w.event
-
-  pub back_here : back_on d e n (b % 64) ≤ n
-  back_here = rw q w.few
-
-module _ (d : List ℕ) (ev n : ℕ) (few : n ≤ 64) (events : ev ≤ 32) (long : Wide d ev n) {b : ℕ} (w : Best d ev n b) {e : ℕ} (q : e ≡ event_of_turn ev (b / 64 % 64))
-    {r : ℕ} {scratch listed : List ℕ} (k : CircleMembers d e n (b % 64) r scratch listed) where
+module _ (d : List ℕ) (ev n : ℕ) (few : n ≤ 64) (long : Wide d ev n) {w : Walk} (f : Best d ev n w)
+    {r : ℕ} {scratch listed : List ℕ} (k : CircleMembers d w.event n w.behaviour r scratch listed) where
   abbrev ms : List ℕ
   ms = k.walked.members
-
-  back_is : r ≡ back_on d (event_of_turn ev (b / 64 % 64)) n (b % 64)
-  back_is = rw q at k.steps
 
   taken : take r listed ≡ ms
   taken = taken_of r listed ms scratch k.walked.bytes k.walked.count
 
-  pub found_is : {list list' : List ℕ} {x : ℕ} → list' ≡ handed listed r list → x ≡ event_number e ev → ShortestFound d ev n list (12 + x * 256 + r * 65536) list'
+  pub found_is : {list list' : List ℕ} {x : ℕ} → list' ≡ handed listed r list → x ≡ event_number w.event ev → ShortestFound d ev n list (12 + x * 256 + r * 65536) list'
   unfolding handed
   found_is {list} {list'} {x} l p =
       let c : length ms ≡ r = k.walked.count in
+      let s : length ms ≡ w.steps = c ∙ k.steps ∙ sym f.steps in
       record {
-        event = e;
-        declared = event_here d ev n w q;
+        event = w.event;
+        declared = f.event;
         members = ms;
         below_n = k.walked.below;
         circle = k.walked.circle;
         answer = rw (p, c);
-        shortest = λ f h y z. rw (c, back_is) (none_shorter d ev n few events long b w f h y z);
-        none_first = λ y z h. q ∙ none_goes_first d ev n few events long b w y z (omega (arith, c, back_is));
-        fits = λ h. let f : ltb (length list) r ≡ false = le-ltb (length list) r (omega arith) in l ∙ rw (f, taken, c);
-        short = λ h. let f : ltb (length list) r ≡ true = lt-ltb (length list) r (omega arith) in l ∙ rw f;
+        shortest = λ e h y z. rw s (none_shorter d ev n few long w f e h y z);
+        none_first = λ y z h. none_goes_first d ev n few long w f y z (omega (arith, s));
+        fits = λ h. let g : ltb (length list) r ≡ false = le-ltb (length list) r (omega arith) in l ∙ rw (g, taken, c);
+        short = λ h. let g : ltb (length list) r ≡ true = lt-ltb (length list) r (omega arith) in l ∙ rw g;
       }

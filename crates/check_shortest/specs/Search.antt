@@ -1,13 +1,13 @@
--- The search for a shortest circle on a draft, in the code's order, and what it finds. The steps from a behaviour back
--- to itself are packed with the event's turn and the behaviour, so that the least number is that of a shortest walk,
--- and none, whose turn is first, goes before the events.
-use Rattle.std.specs.Prelude.{ℕ, zero, suc, ◌+◌, ◌*◌, ◌-◌, ◌≤◌, ◌<◌, min, ◌≡◌, List, ◌++◌, ltb, eqb, length, take, drop}
+-- The search for a shortest circle on a draft, and what it finds. Of two walks of as many steps the one passed first
+-- stays, so that none, whose turn is first, goes before the events.
+use Rattle.std.specs.Prelude.{ℕ, ◌+◌, ◌*◌, ◌-◌, ◌≤◌, ◌<◌, ◌⊎◌, ◌≡◌, List, ◌++◌, ltb, leb, eqb, length, take, drop, Option, Some, None}
 use Rattle.lib_base.specs.Basics.{pick, All}
 use Rattle.check_graph.specs.Matrix.{cell, cell_below}
 use Rattle.check_faults.specs.Checks.{matrix_on}
 use Rattle.check_distance.specs.Circle.{Circle}
 use Rattle.check_distance.specs.Layers.{steps_back, Walked}
 use Rattle.check_shortest.specs.EventNumber.{event_number}
+use Rattle.check_shortest.specs.declared.Walk.{Walk}
 
 -- the steps from i back to i on event e
 unfoldable pub back_on : List ℕ → ℕ → ℕ → ℕ → ℕ
@@ -17,21 +17,29 @@ back_on d e n i = steps_back (λ a b. cell (matrix_on d e n) a b) n i
 unfoldable pub event_of_turn : ℕ → ℕ → ℕ
 event_of_turn ev t = pick (eqb t 0) ev (t - 1)
 
--- the steps, the turn, and the behaviour
-abbrev pub packed_circle : List ℕ → ℕ → ℕ → ℕ → ℕ → ℕ
-packed_circle d e t n i = (back_on d e n i * 64 + t) * 64 + i
+-- the first walk, if there is one and the second has no fewer steps; else the second
+unfoldable pub shorter_of : Option Walk → Walk → Walk
+shorter_of None second = second
+shorter_of (Some first) second = pick (leb first.steps second.steps) first second
 
--- over the first k behaviours of n on event e, whose turn is t, and over the first k turns
-unfoldable pub best_of : List ℕ → ℕ → ℕ → ℕ → ℕ → ℕ → ℕ
-best_of d e t n zero b = b
-best_of d e t n (suc k) b = min (best_of d e t n k b) (packed_circle d e t n k)
+-- behaviour j in turn u is passed when all turns below t are, and of turn t the first i behaviours
+abbrev pub Passed : ℕ → ℕ → ℕ → ℕ → ℕ → Type 0
+Passed n t i u j = (j < n) × ((u < t) ⊎ ((u ≡ t) × (j < i)))
 
-unfoldable pub best_all : List ℕ → ℕ → ℕ → ℕ → ℕ → ℕ
-best_all d ev n zero b = b
-best_all d ev n (suc t) b = best_of d (event_of_turn ev t) t n n (best_all d ev n t b)
+-- of the walks back of those passed, w has the fewest steps, and fewer than all of earlier turns
+pub record Fewest (d : List ℕ) (ev n t i : ℕ) (w : Walk) : Type 0 where
+  pub turn : ℕ
+  pub event : w.event ≡ event_of_turn ev turn
+  pub passed : Passed n t i turn w.behaviour
+  pub steps : w.steps ≡ back_on d w.event n w.behaviour
+  pub few : w.steps ≤ n
+  pub least : (u j : ℕ) → Passed n t i u j → w.steps ≤ back_on d (event_of_turn ev u) n j
+  pub earlier : (u j : ℕ) → Passed n t i u j → u < turn → w.steps < back_on d (event_of_turn ev u) n j
 
-unfoldable pub shortest_on : List ℕ → ℕ → ℕ → ℕ
-shortest_on d ev n = best_all d ev n (ev + 1) 300000
+-- none where none of those passed has a walk back
+abbrev pub FewestIfAny : List ℕ → ℕ → ℕ → ℕ → ℕ → Option Walk → Type 0
+FewestIfAny d ev n t i None = (u j : ℕ) → Passed n t i u j → n < back_on d (event_of_turn ev u) n j
+FewestIfAny d ev n t i (Some w) = Fewest d ev n t i w
 
 -- what the search asks of a draft: its matrices are whole
 abbrev pub Wide : List ℕ → ℕ → ℕ → Type 0

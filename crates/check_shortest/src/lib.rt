@@ -3,9 +3,9 @@
 
 #![tactic(auto)]
 
-ghost use Rattle.std.specs.Prelude.{◌≡◌, true, ◌≤◌, ◌<◌, length};
+ghost use Rattle.std.specs.Prelude.{◌≡◌, true, ℕ, ◌+◌, ◌≤◌, ◌<◌, length, Some};
 ghost use Rattle.check_faults.specs.Checks.{cyclic_on, RowsInside, AllInside};
-ghost use Rattle.check_shortest.specs.Search.{back_on, event_of_turn, best_of, shortest_on, Wide, CircleMembers, handed, ShortestFound};
+ghost use Rattle.check_shortest.specs.Search.{back_on, event_of_turn, shorter_of, FewestIfAny, Wide, CircleMembers, handed, ShortestFound};
 ghost use Rattle.check_shortest.specs.EventNumber.{event_number};
 ghost use Rattle.spec_language.specs.Limits.{behaviour_limit, event_limit};
 ghost use Rattle.lib_base.specs.Words.{byte_values};
@@ -15,18 +15,20 @@ use check_graph::ROW;
 use draft_form::Draft;
 use spec_language::answers;
 
-// How the steps from a behaviour back to itself are packed with the event's turn and the behaviour: both are below 64.
-const TURNS: usize = 64;
-
-const BEHAVIOURS: usize = spec_language::limits::BEHAVIOURS;
-// Above every packed number.
-const BEYOND: usize = 300000;
 // An answer: the refusal, the event times EVENT, NO_EVENT for none, and how many members times COUNT.
 const NO_EVENT: u64 = 255;
 
 const EVENT: u64 = 256;
 
 const COUNT: u64 = 65536;
+
+// A walk of so many steps from a behaviour back to itself, on an event.
+#[derive(Clone, Copy, Drop)]
+struct Walk {
+    steps: usize,
+    event: usize,
+    behaviour: usize,
+}
 
 // The events in turn: none, which is number ev, and then those declared.
 #[tactic(auto, using(lib_base::proofs::Pick::branches), unfolding(crate::specs::Search::event_of_turn))]
@@ -39,44 +41,57 @@ fn event_of_turn(ev: usize, t: usize) -> usize
     t - 1
 }
 
-// The lowest of best and, for each behaviour, the steps from it back to itself on event e, packed with the event's turn
-// and the behaviour.
+// The walk with fewer steps; the first, if there is one, where the second has no fewer.
+#[tactic(auto, using(lib_base::proofs::Pick::branches), unfolding(crate::specs::Search::shorter_of))]
+fn shorter(first: Option<Walk>, second: Walk) -> Walk
+    ensures { result ≡ shorter_of first second }
+{
+    match first {
+        Some(walk) if walk.steps <= second.steps => walk,
+        _ => second,
+    }
+}
+
+// The shortest of best and of the walks from each behaviour back to itself on event e.
 fn best_under(
     d: &Draft,
     e: usize,
-    t: usize,
     n: usize,
     rows: &mut [u64; ROW],
     levels: &mut [u64; LEVELS],
-    best: usize,
-) -> usize
-    requires inside { (e ≤ event_limit) × (n ≤ behaviour_limit) × RowsInside d.now e n }
-    requires t_le_event_limit { t ≤ event_limit }
-    ensures { result ≡ best_of d.now e t n n best }
+    best: Option<Walk>,
+) -> Option<Walk>
+    requires { (e ≤ event_limit) × (n ≤ behaviour_limit) × RowsInside d.now e n }
+    ensures { (ev t : ℕ) → e ≡ event_of_turn ev t → FewestIfAny d.now ev n t 0 best → FewestIfAny d.now ev n t n result }
 {
     check_faults::fill_rows(d, e, n, rows);
-    let mut least = best;
+    let mut shortest = best;
     for i in 0..n {
-        least = lib_order::smaller_size(
-            least,
-            (check_distance::steps_back(rows, levels, i, n) * TURNS + t) * BEHAVIOURS + i,
-        );
+        let Some(steps) = check_distance::steps_back(rows, levels, i, n) else {
+            continue;
+        };
+        let walk = Walk {
+            steps,
+            event: e,
+            behaviour: i,
+        };
+        shortest = Some(shorter(shortest, walk));
     }
-    least
+    shortest
 }
 
 // The same over none and ev events.
-fn shortest(d: &Draft, ev: usize, n: usize) -> usize
+fn shortest(d: &Draft, ev: usize, n: usize) -> Option<Walk>
     requires { (ev ≤ event_limit) × (n ≤ behaviour_limit) × AllInside d.now ev n }
-    ensures { result ≡ shortest_on d.now ev n }
+    ensures { FewestIfAny d.now ev n (ev + 1) 0 result }
 {
     let mut rows = [0u64; ROW];
     let mut levels = [0u64; LEVELS];
-    let mut least = BEYOND;
+    let mut best = None;
     for t in 0..=ev {
-        least = best_under(d, event_of_turn(ev, t), t, n, &mut rows, &mut levels, least);
+        best = best_under(d, event_of_turn(ev, t), n, &mut rows, &mut levels, best);
     }
-    least
+    best
 }
 
 // An event's number in the answer; 255 for none.
@@ -102,7 +117,7 @@ fn list_members(d: &Draft, e: usize, i: usize, n: usize, list: &mut [u8; ROW]) -
     let mut rows = [0u64; ROW];
     let mut levels = [0u64; LEVELS];
     check_faults::fill_rows(d, e, n, &mut rows);
-    let r = check_distance::steps_back(&rows, &mut levels, i, n);
+    let r = check_distance::steps_back(&rows, &mut levels, i, n).unwrap();
     check_distance::walk(&rows, &levels, i, r, n, list);
     r
 }
@@ -124,10 +139,9 @@ pub fn list_circle(d: &Draft, ev: usize, n: usize, list: &mut [u8]) -> u64
     requires wide { Wide d.now ev n × (cyclic_on d.now ev n ≡ true) }
     ensures { ShortestFound d.now ev n list.old result list.new }
 {
-    let best = shortest(d, ev, n);
-    let e = event_of_turn(ev, best / BEHAVIOURS % TURNS);
-    let mut members = [0u8; BEHAVIOURS];
-    let count = list_members(d, e, best % BEHAVIOURS, n, &mut members);
+    let walk = shortest(d, ev, n).unwrap();
+    let mut members = [0u8; ROW];
+    let count = list_members(d, walk.event, walk.behaviour, n, &mut members);
     hand_over(&members, count, list);
-    answers::CYCLE + event_number(e, ev) * EVENT + count as u64 * COUNT
+    answers::CYCLE + event_number(walk.event, ev) * EVENT + count as u64 * COUNT
 }

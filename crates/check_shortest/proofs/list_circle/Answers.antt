@@ -1,22 +1,25 @@
 use Rattle.lib_base.proofs.Prelude.{arith}
-use Rattle.check_shortest.proofs.SearchLaws.{best_as, event_here, back_here, found_is}
+use Rattle.check_shortest.proofs.SearchLaws.{found_some, best_is, found_is}
 use Rattle.check_shortest.proofs.list_circle.Goals as goal
+
+pub unwrap-walk-requires : goal.unwrap-walk-requires
+unwrap-walk-requires c = found_some _ _ _ c.requires.inside.1 c.requires.wide.0 c.requires.wide.1 _ c.shortest.ensures
 
 pub list_members-count-requires-clause-inside : goal.list_members-count-requires-clause-inside
 list_members-count-requires-clause-inside c =
     let p = c.requires.inside in
-    let w = best_as _ _ _ p.1 p.0 c.requires.wide.0 c.requires.wide.1 c.shortest-best.ensures in
-    let e = event_here _ _ _ w c.event_of_turn-e.ensures in
-    (omega (arith, e), p.1, p.2 _ e)
+    let best = best_is _ _ _ p.1 c.requires.wide.0 _ (rw c.unwrap-walk.ensures at c.shortest.ensures) in
+    (omega (arith, best.event), p.1, p.2 _ best.event)
 
 pub list_members-count-requires-clause-reached : goal.list_members-count-requires-clause-reached
 list_members-count-requires-clause-reached c =
     let p = c.requires.inside in
-    let w = best_as _ _ _ p.1 p.0 c.requires.wide.0 c.requires.wide.1 c.shortest-best.ensures in
-    (w.member, back_here _ _ _ w c.event_of_turn-e.ensures)
+    let best = best_is _ _ _ p.1 c.requires.wide.0 _ (rw c.unwrap-walk.ensures at c.shortest.ensures) in
+    (best.member, omega (arith, best.steps, best.few))
 
 pub returns : goal.returns
 returns c =
     let p = c.requires.inside in
-    let w = best_as _ _ _ p.1 p.0 c.requires.wide.0 c.requires.wide.1 c.shortest-best.ensures in
-    found_is _ _ _ p.1 p.0 c.requires.wide.0 w c.event_of_turn-e.ensures c.list_members-count.ensures.members c.hand_over.ensures c.event_number.ensures.value
+    let wide = c.requires.wide.0 in
+    let best = best_is _ _ _ p.1 wide _ (rw c.unwrap-walk.ensures at c.shortest.ensures) in
+    found_is _ _ _ p.1 wide best c.list_members-count.ensures.members c.hand_over.ensures c.event_number.ensures.value
