@@ -1,6 +1,6 @@
 -- What an event is strict about, from the sets and marks that the code has: bit by bit.
 use Rattle.lib_base.proofs.Prelude.{ℕ, ◌≤◌, ◌<◌, ◌≡◌, ◌∙◌, sym, ap, true, false, Bool, ◌||◌, ◌&&◌, not, or-false, List}
-use Rattle.lib_base.proofs.Prelude.{get_or, eqb, leb, lt-leb, le-leb, arith}
+use Rattle.lib_base.proofs.Prelude.{get_or, eqb, leb, arith}
 use Rattle.lib_base.specs.Basics.{pick}
 use Rattle.lib_bits.specs.Bits.{bit, Gathers}
 use Rattle.draft_form.specs.Draft.{entry_of, used_by}
@@ -36,14 +36,14 @@ strict_is d rows n i v names set m next few g h k p e q j b =
 
 -- ---- where it is a handler of one of the cone
 
-pub joins : (d rows : List ℕ) (n set cone i v names next : ℕ) {t : Bool} → t ≡ bit cone i → t ≡ true → 2 ≤ entry_kind v
+pub joins : (d rows : List ℕ) (n set cone i v names next : ℕ) {t : Bool} → t ≡ bit cone i → t ≡ true → leb 2 (entry_kind v) ≡ true
     → ((e : ℕ) → v ≡ entry_of d e i → Gathers 64 names (strict_at_on d rows n e i)) → ((j : ℕ) → bit next j ≡ bit set j || bit names j)
     → (e : ℕ) → v ≡ entry_of d e i → Gathers 64 next (λ j. bit set j || ((bit cone i && leb 2 (entry_kind v)) && strict_at_on d rows n e i j))
-joins d rows n set cone i v names next q s k g u e w j b = rw (← q, s, le-leb 2 (entry_kind v) k, ← g e w j b) (u j)
+joins d rows n set cone i v names next q s k g u e w j b = rw (← q, s, k, ← g e w j b) (u j)
 
-pub no_handler : (d rows : List ℕ) (n set cone i v : ℕ) {t : Bool} → t ≡ bit cone i → t ≡ true → entry_kind v < 2
+pub no_handler : (d rows : List ℕ) (n set cone i v : ℕ) {t : Bool} → t ≡ bit cone i → t ≡ true → leb 2 (entry_kind v) ≡ false
     → (e : ℕ) → v ≡ entry_of d e i → Gathers 64 set (λ j. bit set j || ((bit cone i && leb 2 (entry_kind v)) && strict_at_on d rows n e i j))
-no_handler d rows n set cone i v q s k e w j b = rw (← q, s, lt-leb 2 (entry_kind v) k) (sym (or-false (bit set j)))
+no_handler d rows n set cone i v q s k e w j b = rw (← q, s, k) (sym (or-false (bit set j)))
 
 pub outside : (d rows : List ℕ) (n set cone i v : ℕ) {t : Bool} → t ≡ bit cone i → t ≡ false
     → (e : ℕ) → v ≡ entry_of d e i → Gathers 64 set (λ j. bit set j || ((bit cone i && leb 2 (entry_kind v)) && strict_at_on d rows n e i j))

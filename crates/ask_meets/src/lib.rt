@@ -33,27 +33,28 @@ enum Mark {
 }
 
 // The functions that a mark depends on.
-const NOT: u64 = functions::NOT as u64;
+const NOT: u32 = functions::NOT as u32;
 
-const ADD: u64 = functions::ADD as u64;
+const ADD: u32 = functions::ADD as u32;
 
-const SUBTRACT: u64 = functions::SUBTRACT as u64;
+const SUBTRACT: u32 = functions::SUBTRACT as u32;
 
-const IF: u64 = functions::IF as u64;
+const IF: u32 = functions::IF as u32;
 // As many marks as the nodes of a formula put one on the other.
 const ROOM: usize = 32;
 
 // Of name j, toward behaviour b.
 #[tactic(auto, using(lib_base::proofs::Pick::branches), unfolding(crate::specs::Marks::name_mark))]
-fn name_mark(rows: &[u64; ROW], b: usize, j: u64) -> Mark
+fn name_mark(rows: &[u64; ROW], b: usize, j: u32) -> Mark
     requires { b < behaviour_limit }
     ensures { mark_number result ≡ name_mark (λ k. bit (get_or rows.now k 0) b) b j }
 {
-    if j == b as u64 {
+    let j = j as usize;
+    if j == b {
         return Mark::Adds;
     }
-    if j < limits::BEHAVIOURS as u64 {
-        if lib_bits::contains(rows[j as usize], b) {
+    if j < limits::BEHAVIOURS {
+        if lib_bits::contains(rows[j], b) {
             return Mark::Names;
         }
     }
@@ -73,7 +74,7 @@ fn one_mark(a: Mark) -> Mark
 
 // Of a function of two arguments.
 #[tactic(auto, using(lib_base::proofs::Pick::branches), unfolding(crate::specs::Marks::two_mark))]
-fn two_mark(f: u64, a: Mark, b: Mark) -> Mark
+fn two_mark(f: u32, a: Mark, b: Mark) -> Mark
     ensures { mark_number result ≡ two_mark f (mark_number a) (mark_number b) }
 {
     match (f, a, b) {
@@ -132,7 +133,7 @@ impl Stack {
 
     // Function f takes its arguments' marks and puts its own.
     #[tactic(auto, using(lib_base::proofs::Pick::branches), unfolding(crate::specs::Marks::applied_mark))]
-    fn apply(&mut self, f: u64)
+    fn apply(&mut self, f: u32)
         ensures { standing self.new.marks self.new.depth ≡ applied_mark f (standing self.old.marks self.old.depth) }
     {
         let last = self.pop();
@@ -154,8 +155,8 @@ impl Stack {
         ensures { standing self.new.marks self.new.depth
             ≡ mark_step (λ k. bit (get_or rows.now k 0) b) b (standing self.old.marks self.old.depth) x }
     {
-        let w = x % layout::WORD;
-        match x / layout::WORD {
+        let w = draft_form::node_word(x);
+        match draft_form::node_tag(x) {
             layout::NAME => self.push(name_mark(rows, b, w)),
             layout::APPLICATION => self.apply(w),
             _ => self.push(Mark::Apart),
@@ -168,13 +169,11 @@ fn mark_in(d: &Draft, rows: &[u64; ROW], i: usize, v: u64) -> Mark
     requires { (i < behaviour_limit) × (entry_start v + entry_count v ≤ draft_nodes) }
     ensures { mark_number result ≡ mark_in d.now rows.now i v }
 {
-    let start = (v / layout::KINDS % layout::FIRSTS) as usize;
-    let count = (v / layout::COUNTS) as usize;
     let mut stack = Stack {
         marks: [Mark::Apart; ROOM],
         depth: 0,
     };
-    for node in &d[start..start + count] {
+    for node in draft_form::nodes_of(d, v) {
         stack.read(rows, i, draft_form::moved_node(d, i, *node));
     }
     stack.pop()
@@ -219,7 +218,7 @@ fn add_strict(d: &Draft, rows: &[u64; ROW], n: usize, set: u64, cone: u64, i: us
         || ((bit cone i && leb 2 (entry_kind v)) && strict_at_on d.now rows.now n e i j)) }
 {
     if lib_bits::contains(cone, i) {
-        if v % layout::KINDS >= layout::IMMEDIATE {
+        if draft_form::is_handler(v) {
             return lib_bits::union_of(set, strict_at(d, rows, n, i, v));
         }
     }

@@ -1,10 +1,9 @@
 -- The rows as sets are the rows of the matrix: both take in the same names, node by node.
 use Rattle.lib_base.proofs.Prelude.{ℕ, ◌≤◌, ◌<◌, ◌+◌, suc, zero, ◌*◌, ◌≡◌, refl, ◌∙◌, sym, ap, subst, true, false}
 use Rattle.lib_base.proofs.Prelude.{Bool, ◌||◌, ◌&&◌, not, or-false, and-false, ◌≢◌, by_cases, List, [], ◌∷◌, length}
-use Rattle.lib_base.proofs.Prelude.{get_or, take, drop, set, length-drop, get_or-take, get_or-set_other, get_or-set_same}
+use Rattle.lib_base.proofs.Prelude.{get_or, take, drop, length-drop, length-take-le, get_or-take}
 use Rattle.lib_base.proofs.Prelude.{get_or-drop, take-suc, eqb, ltb, add-one, dec_lt, ne_eqb, eqb-true, le-ltb, lt-ltb}
 use Rattle.lib_base.proofs.Prelude.{eq-eqb, eqb-false, arith}
-use borrow.Rule.Slice.PartMut.{mid_of}
 use Rattle.lib_base.proofs.Tools.{split}
 use Rattle.lib_bits.specs.Bits.{bit}
 use Rattle.lib_bits.proofs.BitLaws.{bit_none}
@@ -58,11 +57,12 @@ both false a m = refl
 pub record Gathered (d : List ℕ) (i but n start s k : ℕ) : Type 0 where
   pub bits : (b : ℕ) → bit s b ≡ ltb b n && some_node_names but b (take k (drop start (used_by d i)))
 
--- node k of those from `start` on
-pub node_at : (d : List ℕ) (start m k : ℕ) → k < m → get_or (mid_of start m d) k 0 ≡ get_or d (start + k) 0
-node_at d start m k h =
-    let part : mid_of start m d ≡ take m (drop start d) = refl in
-    rw part (get_or-take m (drop start d) k 0 h ∙ get_or-drop start d k 0)
+-- the nodes of an entry, and the one of number k
+pub nodes_long : (d xs : List ℕ) (start count : ℕ) → xs ≡ take count (drop start d) → start + count ≤ length d → length xs ≡ count
+nodes_long d xs start count q h = rw q (length-take-le count (drop start d) (rw length-drop (omega arith)))
+
+pub node_at : (d xs : List ℕ) (start count k : ℕ) → xs ≡ take count (drop start d) → k < count → get_or xs k 0 ≡ get_or d (start + k) 0
+node_at d xs start count k q h = rw q (get_or-take count (drop start d) k 0 h ∙ get_or-drop start d k 0)
 
 pub gathered_start : (d : List ℕ) (i but n start : ℕ) → Gathered d i but n start 0 0
 unfolding some_node_names

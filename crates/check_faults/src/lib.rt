@@ -26,7 +26,7 @@ use spec_language::limits;
 fn is_stray(x: u64, b: usize) -> bool
     ensures { result ≡ stray x b }
 {
-    x / layout::WORD == layout::NAME && x % layout::WORD >= b as u64
+    draft_form::node_tag(x) == layout::NAME && draft_form::node_word(x) as usize >= b
 }
 
 // Whether one of these nodes is the name of none of b behaviours.
@@ -50,22 +50,20 @@ fn add_need(set: u64, but: usize, n: usize, x: u64) -> u64
     requires { n ≤ behaviour_limit }
     ensures { (b : ℕ) → bit result b ≡ bit set b || (ltb b n && node_names but b x) }
 {
-    if x / layout::WORD == layout::NAME {
-        let j = (x % layout::WORD) as usize;
-        if j < n && j != but {
-            return lib_bits::insert(set, j);
-        }
+    match draft_form::name_of(x) {
+        Some(j) if j < n && j != but => lib_bits::insert(set, j),
+        _ => set,
     }
-    set
 }
 
-// The names of the first n among count nodes from start on, as behaviour i means them, as a set.
-fn need_set(d: &Draft, i: usize, but: usize, n: usize, start: usize, count: usize) -> u64
-    requires { (i < behaviour_limit) × (n ≤ behaviour_limit) × (start + count ≤ draft_nodes) }
-    ensures { (b : ℕ) → bit result b ≡ ltb b n && some_node_names but b (take count (drop start (used_by d.now i))) }
+// The names of the first n in the entry, as behaviour i means them, as a set.
+fn need_set(d: &Draft, i: usize, but: usize, n: usize, entry: u64) -> u64
+    requires { (i < behaviour_limit) × (n ≤ behaviour_limit) × (entry_start entry + entry_count entry ≤ draft_nodes) }
+    ensures { (b : ℕ) → bit result b
+        ≡ ltb b n && some_node_names but b (take (entry_count entry) (drop (entry_start entry) (used_by d.now i))) }
 {
     let mut set = 0;
-    for node in &d[start..start + count] {
+    for node in draft_form::nodes_of(d, entry) {
         set = add_need(set, but, n, draft_form::moved_node(d, i, *node));
     }
     set
@@ -76,15 +74,11 @@ fn row_of(d: &Draft, i: usize, n: usize, entry: u64) -> u64
     requires { (i < behaviour_limit) × (n ≤ behaviour_limit) × (entry_start entry + entry_count entry ≤ draft_nodes) }
     ensures { (b : ℕ) → bit result b ≡ ltb b n && needs_on d.now i entry b }
 {
-    let start = (entry / layout::KINDS % layout::FIRSTS) as usize;
-    let count = (entry / layout::COUNTS) as usize;
-    if entry % layout::KINDS == layout::PASSIVE {
-        return need_set(d, i, limits::BEHAVIOURS, n, start, count);
+    match draft_form::entry_kind(entry) {
+        layout::PASSIVE => need_set(d, i, limits::BEHAVIOURS, n, entry),
+        layout::IMMEDIATE => need_set(d, i, i, n, entry),
+        _ => 0,
     }
-    if entry % layout::KINDS == layout::IMMEDIATE {
-        return need_set(d, i, i, n, start, count);
-    }
-    0
 }
 
 // The needs of the first n behaviours on event e, a set for each.

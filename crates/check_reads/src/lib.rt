@@ -25,13 +25,10 @@ pub type Sets = [u64; limits::EVENTS];
 fn add_name(set: u64, x: u64) -> u64
     ensures { (j : ℕ) → j < behaviour_limit → bit result j ≡ bit set j || is_name j x }
 {
-    if x / layout::WORD == layout::NAME {
-        let j = (x % layout::WORD) as usize;
-        if j < limits::BEHAVIOURS {
-            return lib_bits::insert(set, j);
-        }
+    match draft_form::name_of(x) {
+        Some(j) if j < limits::BEHAVIOURS => lib_bits::insert(set, j),
+        _ => set,
     }
-    set
 }
 
 // The names in entry v of behaviour i, as i means them.
@@ -39,10 +36,8 @@ pub fn names_in(d: &Draft, i: usize, v: u64) -> u64
     requires { (i < behaviour_limit) × (entry_start v + entry_count v ≤ draft_nodes) }
     ensures { Gathers behaviour_limit result (λ j. named_among (used_by d.now i) j (entry_start v) (entry_count v)) }
 {
-    let start = (v / layout::KINDS % layout::FIRSTS) as usize;
-    let count = (v / layout::COUNTS) as usize;
     let mut set = 0;
-    for node in &d[start..start + count] {
+    for node in draft_form::nodes_of(d, v) {
         set = add_name(set, draft_form::moved_node(d, i, *node));
     }
     set
@@ -53,7 +48,7 @@ fn add_writer(set: u64, i: usize, v: u64) -> u64
     requires { i < behaviour_limit }
     ensures { (j : ℕ) → bit result j ≡ bit set j || (leb 2 (entry_kind v) && eqb j i) }
 {
-    if layout::IMMEDIATE <= v % layout::KINDS {
+    if draft_form::is_handler(v) {
         return lib_bits::insert(set, i);
     }
     set
@@ -77,7 +72,7 @@ fn add_names(d: &Draft, set: u64, i: usize, v: u64) -> u64
     ensures { Gathers behaviour_limit result (λ j. bit set j
         || (leb 2 (entry_kind v) && named_among (used_by d.now i) j (entry_start v) (entry_count v))) }
 {
-    if v % layout::KINDS >= layout::IMMEDIATE {
+    if draft_form::is_handler(v) {
         return lib_bits::union_of(set, names_in(d, i, v));
     }
     set
@@ -100,7 +95,7 @@ fn passive_names(d: &Draft, i: usize, v: u64) -> u64
     requires { (i < behaviour_limit) × (entry_start v + entry_count v ≤ draft_nodes) }
     ensures { Gathers behaviour_limit result (λ j. eqb (entry_kind v) 1 && named_among (used_by d.now i) j (entry_start v) (entry_count v)) }
 {
-    if v % layout::KINDS == layout::PASSIVE {
+    if draft_form::entry_kind(v) == layout::PASSIVE {
         return names_in(d, i, v);
     }
     0

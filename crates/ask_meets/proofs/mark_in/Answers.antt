@@ -1,7 +1,7 @@
-use Rattle.lib_base.proofs.Prelude.{ℕ, ◌+◌, ◌-◌, ◌≡◌, ◌∙◌, refl, ap, arith}
+use Rattle.lib_base.proofs.Prelude.{ℕ, ◌≡◌, ◌∙◌, refl, ap, arith}
 use Rattle.draft_form.specs.Draft.{moved}
-use Rattle.draft_form.specs.Entry.{entry_start, entry_count}
-use Rattle.check_faults.proofs.RowLaws.{node_at}
+use Rattle.draft_form.specs.Entry.{entry_count}
+use Rattle.check_faults.proofs.RowLaws.{nodes_long, node_at}
 use Rattle.ask_meets.specs.Marks.{marks_among}
 use Rattle.ask_meets.specs.Strict.{mark_in}
 use Rattle.ask_meets.specs.Marking.{standing}
@@ -14,11 +14,14 @@ loop-node-init c = refl
 
 pub loop-node-preserved : goal.loop-node-preserved
 loop-node-preserved c =
-    let start = entry_start c.args.v in
-    let k = c.loop-node.node-index in
-    let node = node_at c.args.d.now start (start + entry_count c.args.v - start) k (omega arith) in
-    node_marked c.args.d.now c.args.rows.now c.args.i start k c.loop-node.invariant (c.moved_node.ensures ∙ ap (λ (x : ℕ). moved c.args.d.now c.args.i x) node) c.read.ensures
+    let d = c.args.d.now in
+    let nodes = c.nodes_of-node-items.ensures in
+    let node = node_at d _ _ _ c.loop-node.node-index nodes (omega (arith, nodes_long d _ _ _ nodes (omega arith))) in
+    node_marked d c.args.rows.now c.args.i _ _ c.loop-node.invariant (c.moved_node.ensures ∙ ap (λ (x : ℕ). moved d c.args.i x) node) c.read.ensures
 
 pub returns : goal.returns
 unfolding mark_in
-returns c = let q : c.loop-node.node-index ≡ entry_count c.args.v = omega arith in rw (c.pop.ensures.mark, c.loop-node.invariant, q)
+returns c =
+    let all = nodes_long c.args.d.now _ _ _ c.nodes_of-node-items.ensures (omega arith) in
+    let q : c.loop-node.node-index ≡ entry_count c.args.v = omega (arith, all) in
+    rw (c.pop.ensures.mark, c.loop-node.invariant, q)
