@@ -4,10 +4,12 @@
 
 ghost use Rattle.std.specs.Prelude.{◌≡◌, ◌≤◌, ◌<◌, ◌-◌, ◌%◌, length};
 ghost use Rattle.source_language.specs.Tokens.{end_sign};
-ghost use Rattle.source_tokens.specs.Token.{TokenAt, TokenWithin};
+ghost use Rattle.source_language.specs.Faults.{outside};
+ghost use Rattle.source_tokens.specs.Token.{place_of_token, TokenAt, TokenWithin};
 ghost use Rattle.source_due.specs.Due.{SignTold, NameTold, NumberTold, ValueTold, DueWithin};
 ghost use Rattle.lib_base.specs.Words.{word_values};
 ghost use Rattle.source_coding.specs.Bounds.{largest_negated, text_bytes};
+ghost use Rattle.source_coding.specs.FaultWords.{fault_of};
 
 use lib_signature::functions;
 use source_coding::faults::{Fault, Kind};
@@ -25,6 +27,16 @@ pub struct Found {
 
 pub type Due = Result<Found, Fault>;
 
+// The fault that something else is due than the token t.
+fn unexpected(t: Token) -> Fault
+    ensures { result ≡ fault_of outside (place_of_token t) }
+{
+    Fault {
+        kind: Kind::Outside,
+        place: place_of(t),
+    }
+}
+
 // This sign, where the token t stands.
 fn sign_of(text: &[u8], at: usize, t: Token, sign: u8) -> Due
     requires text_len_bound { length text.now ≤ text_bytes }
@@ -35,16 +47,10 @@ fn sign_of(text: &[u8], at: usize, t: Token, sign: u8) -> Due
     ensures due_within { DueWithin (length text.now) at result }
 {
     let Token::Sign(place, c, next) = t else {
-        return Err(Fault {
-            kind: Kind::Outside,
-            place: place_of(t),
-        });
+        return Err(unexpected(t));
     };
     if c != sign {
-        return Err(Fault {
-            kind: Kind::Outside,
-            place,
-        });
+        return Err(unexpected(t));
     }
     Ok(Found {
         place,
@@ -74,10 +80,7 @@ pub fn name_due(text: &[u8], at: usize) -> Due
 {
     let t = token_at(text, at);
     let Token::Name(place, next) = t else {
-        return Err(Fault {
-            kind: Kind::Outside,
-            place: place_of(t),
-        });
+        return Err(unexpected(t));
     };
     Ok(Found {
         place,
@@ -96,10 +99,7 @@ fn number_of(text: &[u8], at: usize, t: Token, top: u64) -> Due
     ensures due_within { DueWithin (length text.now) at result }
 {
     let Token::Number(place, number, next) = t else {
-        return Err(Fault {
-            kind: Kind::Outside,
-            place: place_of(t),
-        });
+        return Err(unexpected(t));
     };
     if top < number {
         return Err(Fault {
