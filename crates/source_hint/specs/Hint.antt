@@ -1,14 +1,13 @@
 -- What a hint promises, bounds alone; and when it is right.
-use Rattle.std.specs.Prelude.{ℕ, ◌+◌, ◌≤◌, ◌≡◌, List, length}
+use Rattle.std.specs.Prelude.{Option, None, Some, ℕ, ◌+◌, ◌≤◌, ◌≡◌, List, length}
 use Rattle.lib_base.specs.Basics.{All}
 use Rattle.source_hint.specs.declared.Declaration.{Declaration}
-use Rattle.source_hint.specs.declared.Declaration.TheVariants.{Seen, Nothing}
 use Rattle.source_hint.specs.declared.Hint.{Hint}
 
 -- a declaration ends within a text of so many bytes, and has few cells
-abbrev pub SeenWithin : ℕ → Declaration → Type 0
-SeenWithin long (Seen p cells next) = (cells ≤ 16) × (next ≤ long)
-SeenWithin long Nothing = Unit {0}
+abbrev pub SeenWithin : ℕ → Option Declaration → Type 0
+SeenWithin long (Some d) = (d.cells ≤ 16) × (d.next ≤ long)
+SeenWithin long None = Unit {0}
 
 -- as many parameters and behaviours as there may be, and numbers of cells
 pub record HintUsable (hint : Hint) (starts : List ℕ) : Type 0 where

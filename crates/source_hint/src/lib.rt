@@ -3,7 +3,7 @@
 
 #![tactic(auto)]
 
-ghost use Rattle.std.specs.Prelude.{true, ◌≡◌, ◌≤◌, ◌<◌, ◌+◌, length};
+ghost use Rattle.std.specs.Prelude.{true, IfSome, ◌≡◌, ◌≤◌, ◌<◌, ◌+◌, length};
 ghost use Rattle.lib_base.specs.Basics.{All};
 ghost use Rattle.source_hint.specs.Hint.{SeenWithin, HintUsable, HintRight};
 ghost use Rattle.source_coding.specs.Bounds.{first_cells, name_limit, text_bytes};
@@ -25,10 +25,11 @@ const COMMENT: u8 = b'#';
 const MOST_CELLS: u64 = limits::MOST_CELLS as u64;
 
 // A declaration: the place of its name, its cells, none for a parameter, and the place behind it.
-#[derive(Drop)]
-enum Declaration {
-    Seen(usize, usize, usize),
-    Nothing,
+#[derive(Clone, Copy, Drop)]
+struct Declaration {
+    place: usize,
+    cells: usize,
+    next: usize,
 }
 
 // How many parameters, and how many names with these.
@@ -40,17 +41,12 @@ pub struct Hint {
 
 // A comment, or one of `param`, `passive`, `active` and `row`, may begin with this byte.
 fn is_sought(b: u8) -> bool {
-    ((b == COMMENT) | (b == b'p')) | ((b == b'a') | (b == b'r'))
+    (b == COMMENT) | (b == b'p') | (b == b'a') | (b == b'r')
 }
 
 // One of these words may begin with these bytes.
 fn may_declare(b: u8, c: u8) -> bool {
-    match b {
-        b'p' => c == b'a',
-        b'a' => c == b'c',
-        b'r' => c == b'o',
-        _ => false,
-    }
+    matches!((b, c), (b'p', b'a') | (b'a', b'c') | (b'r', b'o'))
 }
 
 // Nothing is sought in a block. All bytes are looked at, so that they can be at once.
@@ -58,10 +54,8 @@ fn is_idle(text: &[u8], at: usize) -> bool
     requires { at + block_bytes < length text.now }
 {
     let mut sought = false;
-    let mut k = 0;
-    while k < BLOCK {
-        sought = sought | is_sought(text[at + k]);
-        k = k + 1;
+    for k in 0..BLOCK {
+        sought |= is_sought(text[at + k]);
     }
     !sought
 }
@@ -80,7 +74,7 @@ fn pass_idle(text: &[u8], at: usize) -> usize
         if !is_idle(text, i) {
             return i;
         }
-        i = i + BLOCK;
+        i += BLOCK;
     }
     i
 }
@@ -89,10 +83,7 @@ fn pass_idle(text: &[u8], at: usize) -> usize
 fn is_inside(text: &[u8], at: usize) -> bool
     requires { at ≤ length text.now }
 {
-    let mut i = at;
-    while 0 < i {
-        i = i - 1;
-        let b = text[i];
+    for &b in text[..at].iter().rev() {
         if !in_word(b) {
             return false;
         }
@@ -114,11 +105,10 @@ fn is_declaring(text: &[u8], at: usize) -> bool
     if is_inside(text, at) {
         return false;
     }
-    let t = token_at(text, at);
-    let Token::Sign(_, c, _) = t else {
-        return false;
-    };
-    (c == signs::PARAM) | ((signs::PASSIVE <= c) & (c <= signs::ROW))
+    matches!(
+        token_at(text, at),
+        Token::Sign(_, signs::PARAM | signs::PASSIVE..=signs::ROW, _)
+    )
 }
 
 // The next place to look at: a comment is passed over.
@@ -150,52 +140,45 @@ fn next_declaring(text: &[u8], at: usize) -> usize
     i
 }
 
+// The cells of a row, whose count stands after `[`.
+fn row_cells(text: &[u8], at: usize) -> Option<usize>
+    requires text_len_bound { length text.now ≤ text_bytes }
+    requires at_in_bounds { at ≤ length text.now }
+    ensures { IfSome result (λ n. n ≤ most_cells) }
+{
+    let opened = source_due::sign_due(text, at, signs::BRACKET).ok()?;
+    let counted = source_due::number_due(text, opened.next, MOST_CELLS).ok()?;
+    Some(counted.number as usize)
+}
+
 // The cells of a row from `[` on; 1 for another behaviour, none for a parameter or where no count stands.
 fn hinted_cells(text: &[u8], at: usize, word: u8) -> usize
     requires text_len_bound { length text.now ≤ text_bytes }
     requires at_in_bounds { at ≤ length text.now }
     ensures { result ≤ most_cells }
 {
-    if word == signs::PARAM {
-        return 0;
+    match word {
+        signs::PARAM => 0,
+        signs::ROW => row_cells(text, at).unwrap_or(0),
+        _ => 1,
     }
-    if word != signs::ROW {
-        return 1;
-    }
-    let Ok(opened) = source_due::sign_due(text, at, signs::BRACKET) else {
-        return 0;
-    };
-    let Ok(counted) = source_due::number_due(text, opened.next, MOST_CELLS) else {
-        return 0;
-    };
-    counted.number as usize
 }
 
 // The declaration whose word begins at a place.
-fn declared_at(text: &[u8], at: usize) -> Declaration
+fn declared_at(text: &[u8], at: usize) -> Option<Declaration>
     requires text_len_bound { length text.now ≤ text_bytes }
     requires at_in_bounds { at ≤ length text.now }
     ensures { SeenWithin (length text.now) result }
 {
-    let word = token_at(text, at);
-    let Token::Sign(_, c, next) = word else {
-        return Declaration::Nothing;
+    let Token::Sign(_, word, next) = token_at(text, at) else {
+        return None;
     };
-    let Ok(name) = source_due::name_due(text, next) else {
-        return Declaration::Nothing;
-    };
-    Declaration::Seen(name.place, hinted_cells(text, name.next, c), name.next)
-}
-
-// 1 for a parameter, which has no cells.
-fn parameters_of(cells: usize) -> usize
-    ensures upper_bound { result ≤ 1 }
-    ensures bound { 1 ≤ result + cells }
-{
-    if cells == 0 {
-        return 1;
-    }
-    0
+    let name = source_due::name_due(text, next).ok()?;
+    Some(Declaration {
+        place: name.place,
+        cells: hinted_cells(text, name.next, word),
+        next: name.next,
+    })
 }
 
 // The places of the names that a text seems to declare, and the numbers of the behaviours' first cells; as far as there
@@ -207,59 +190,31 @@ pub fn hint_of(text: &[u8], names: &mut [usize], starts: &mut [usize]) -> Hint
     ensures hint_usable { HintUsable result starts.new }
     ensures names_len_2 { length names.new ≡ name_limit }
 {
-    let mut params = 0usize;
-    let mut count = 0usize;
-    let mut cells = 0usize;
-    let mut at = 0usize;
-    while count < texts::NAMES {
-        let d = declared_at(text, next_declaring(text, at));
-        let Declaration::Seen(p, more, after) = d else {
-            return Hint {
-                params: params,
-                count: count,
-            };
+    let mut hint = Hint {
+        params: 0,
+        count: 0,
+    };
+    let mut cells = 0;
+    let mut at = 0;
+    for i in 0..texts::NAMES {
+        let Some(seen) = declared_at(text, next_declaring(text, at)) else {
+            break;
         };
-        let parameter = parameters_of(more);
-        if limits::PARAMETERS < params + parameter {
-            return Hint {
-                params: params,
-                count: count,
-            };
+        // a parameter has no cells
+        let params = hint.params + usize::from(seen.cells == 0);
+        cells += seen.cells;
+        if limits::PARAMETERS < params || limits::BEHAVIOURS < cells {
+            break;
         }
-        if limits::BEHAVIOURS < cells + more {
-            return Hint {
-                params: params,
-                count: count,
-            };
-        }
-        names[count] = p;
-        count = count + 1;
-        params = params + parameter;
-        cells = cells + more;
-        starts[count - params] = cells;
-        at = after;
+        hint = Hint {
+            params,
+            count: i + 1,
+        };
+        names[i] = seen.place;
+        starts[hint.count - params] = cells;
+        at = seen.next;
     }
-    Hint {
-        params: params,
-        count: count,
-    }
-}
-
-// Two lists of numbers are the same.
-fn is_same(some: &[usize], others: &[usize]) -> bool
-    ensures { result ≡ true → some.now ≡ others.now }
-{
-    if some.len() != others.len() {
-        return false;
-    }
-    let mut k = 0;
-    while k < some.len() {
-        if some[k] != others[k] {
-            return false;
-        }
-        k = k + 1;
-    }
-    true
+    hint
 }
 
 // A hint's names, parameters and first cells are those that a text declares.
@@ -273,11 +228,5 @@ pub fn is_right(
 ) -> bool
     ensures { result ≡ true → HintRight names.now params firsts.now declared.now parameters starts.now }
 {
-    if params != parameters {
-        return false;
-    }
-    if is_same(names, declared) {
-        return is_same(firsts, starts);
-    }
-    false
+    params == parameters && names == declared && firsts == starts
 }
