@@ -21,10 +21,7 @@ fn cell_at(firsts: &[usize], i: usize) -> usize
     ensures value { result ≡ get_or firsts.now i 0 }
     ensures upper_bound { result ≤ behaviour_limit }
 {
-    if i < firsts.len() {
-        return firsts[i];
-    }
-    0
+    firsts.get(i).copied().unwrap_or(0)
 }
 
 // The number for a behaviour or a row from its first cell to the next one's.

@@ -51,10 +51,7 @@ fn number_in_list(meanings: &[usize], i: usize) -> usize
     ensures value { result ≡ get_or meanings.now i 0 }
     ensures upper_bound { result < meaning_limit }
 {
-    if i < meanings.len() {
-        return meanings[i];
-    }
-    0
+    meanings.get(i).copied().unwrap_or(0)
 }
 
 // The behaviour or row from a first cell on, by how many cells it has.
@@ -169,11 +166,7 @@ fn cell_leaf(meaning: Meaning, p: usize, q: usize, k: usize, cells: usize) -> Re
             kind: Kind::UnknownName,
             place: p,
         }),
-        Meaning::Parameter(i) => Err(Fault {
-            kind: Kind::NoSuchCell,
-            place: q,
-        }),
-        Meaning::Behaviour(i) => Err(Fault {
+        Meaning::Parameter(_) | Meaning::Behaviour(_) => Err(Fault {
             kind: Kind::NoSuchCell,
             place: q,
         }),
