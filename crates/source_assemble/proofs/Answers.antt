@@ -4,7 +4,7 @@
 use Rattle.std.specs.Prelude.{Option, None, Some, Err}
 use Rattle.source_coding.specs.declared.faults.Fault.{Fault}
 use Rattle.source_coding.proofs.KindNumbers.{number_of_kind}
-use Rattle.lib_base.proofs.Prelude.{ℕ, ◌≤◌, ◌<◌, ◌+◌, ◌-◌, suc, zero, ◌≡◌, refl, ◌∙◌, sym, ap, List}
+use Rattle.lib_base.proofs.Prelude.{ℕ, ◌≤◌, ◌<◌, ◌+◌, suc, zero, ◌≡◌, refl, ◌∙◌, sym, ap, List}
 use Rattle.lib_base.proofs.Prelude.{◌++◌, map, length, take, drop, replicate, length-take-le}
 use Rattle.lib_base.proofs.Prelude.{ltb, le-ltb, lt-ltb, ltb-false, arith}
 use Rattle.lib_base.specs.Basics.{All}
@@ -57,11 +57,8 @@ unfolding assemble_number assemble_on
 sheet_answer_law bytes buffer s out n e q w = rw (e, w, q)
 
 -- the copy of a sheet's n bytes
-pub copied : (bytes buffer out q : List ℕ) (n : ℕ) → n ≤ 8192 → n ≤ length buffer → q ≡ take (n - 0) out → answered (4294967296 + n) (q ++ drop n buffer) ≡ sheet_answer bytes n out buffer
-copied bytes buffer out q n few room e =
-    let z : n - 0 ≡ n = omega arith in
-    let f : q ≡ take n out = rw z at e in
-    rw (le-ltb 8192 n few, le-ltb (length buffer) n room, f)
+pub copied : (bytes buffer out q : List ℕ) (n : ℕ) → n ≤ 8192 → n ≤ length buffer → q ≡ take n out → answered (4294967296 + n) (q ++ drop n buffer) ≡ sheet_answer bytes n out buffer
+copied bytes buffer out q n few room e = rw (le-ltb 8192 n few, le-ltb (length buffer) n room, e)
 
 -- as many zeros are low numbers
 pub zeros_low : (n : ℕ) → All (λ i. i ≤ 64) (replicate n 0)
@@ -74,11 +71,8 @@ zeros_mean (suc n) = (omega arith, zeros_mean n)
 
 -- ---- names in order, and as they are declared
 
-part_long : (n : ℕ) (l : List ℕ) → n ≤ length l → length (take (n - 0) l) ≡ n
-part_long n l h = let z : n - 0 ≡ n = omega arith in rw z (length-take-le n l h)
-
-pub part_few : (n : ℕ) (l : List ℕ) → n ≤ 72 → length l ≡ 72 → length (take (n - 0) l) ≤ 72
-part_few n l h e = omega (arith, part_long n l (omega arith))
+pub part_few : (n : ℕ) (l : List ℕ) → n ≤ 72 → length l ≡ 72 → length (take n l) ≤ 72
+part_few n l h e = omega (arith, length-take-le n l (omega arith))
 
 alike : {find other : List ℕ → NameMeaning} → ((s : List ℕ) → find s ≡ other s) → find ≡ other
 alike e = λ i s. e s i
@@ -88,16 +82,16 @@ module _ (bytes names : List ℕ) (params : ℕ) (firsts : List ℕ) (usable : N
   few_names = omega (arith, usable.few_parameters, usable.few_names)
 
   pub known_in_order : (places before meanings : List ℕ) → length places ≡ 72
-      → MeaningsPut bytes names params firsts (take (length names - 0) places) (length (take (length names - 0) places)) before meanings
-      → AllFound bytes names (take (length names - 0) places) (length names)
-      → LookupUsable (take (length names - 0) places) (length names) meanings
-      × (meaning_by bytes (take (length names - 0) places) (length names) meanings ≡ meaning_in bytes names params firsts)
+      → MeaningsPut bytes names params firsts (take (length names) places) (length (take (length names) places)) before meanings
+      → AllFound bytes names (take (length names) places) (length names)
+      → LookupUsable (take (length names) places) (length names) meanings
+      × (meaning_by bytes (take (length names) places) (length names) meanings ≡ meaning_in bytes names params firsts)
   known_in_order places before meanings long put found =
-      let l : length (take (length names - 0) places) ≡ length names = part_long (length names) places (omega (arith, few_names)) in (
+      let l : length (take (length names) places) ≡ length names = length-take-le (length names) places (omega (arith, few_names)) in (
         record { some_sorted = omega arith; low = put.low },
         alike (λ s.
-            ap (λ (n : ℕ). meaning_by bytes (take (length names - 0) places) n meanings s) (sym l)
-            ∙ known_sorted bytes names params firsts usable.few_parameters usable.low (take (length names - 0) places) before meanings l put found s),
+            ap (λ (n : ℕ). meaning_by bytes (take (length names) places) n meanings s) (sym l)
+            ∙ known_sorted bytes names params firsts usable.few_parameters usable.low (take (length names) places) before meanings l put found s),
       )
 
   pub known_as_declared : (before meanings : List ℕ) → MeaningsPut bytes names params firsts names (length names) before meanings
@@ -112,14 +106,13 @@ module _ (bytes names : List ℕ) (params : ℕ) (firsts : List ℕ) (usable : N
 -- what it leaves to the second
 pub record NamesLeft (bytes names starts : List ℕ) (params count : ℕ) (x : OrFault Text) : Type 0 where
   pub counted : count ≤ 72
-  pub usable : NamesUsable (take (count - 0) names) params starts
-  pub known : NamesResolved bytes (meaning_in bytes (take (count - 0) names) params starts) x
+  pub usable : NamesUsable (take count names) params starts
+  pub known : NamesResolved bytes (meaning_in bytes (take count names) params starts) x
 
 module _ (bytes : List ℕ) (find : List ℕ → NameMeaning) (o p names starts : List ℕ) (end params count : ℕ) (w : Option Fault) where
   left_by : (x : OrFault Text) → TextRead bytes find o p names starts (read_so end params count w) x → NamesLeft bytes names starts params count x
   left_by (fault k at) t = absurd t
-  left_by (fine (text ps es bs)) t =
-      let z : count - 0 ≡ count = omega arith in record { counted = t.counted; usable = rw z t.usable; known = rw z t.known }
+  left_by (fine (text ps es bs)) t = record { counted = t.counted; usable = t.usable; known = t.known }
 
   pub names_left : TextRead bytes find o p names starts (read_so end params count w) (read_text bytes) → NamesLeft bytes names starts params count (read_text bytes)
   names_left = left_by (read_text bytes)
@@ -219,11 +212,11 @@ right_names bytes names params firsts declared parameters starts h known = rw (h
 
 -- ---- the hint
 
-pub hint_usable : (params count : ℕ) (names starts : List ℕ) → length names ≡ 72 → HintUsable (record { params = params; count = count }) starts → NamesUsable (take (count - 0) names) params starts
+pub hint_usable : (params count : ℕ) (names starts : List ℕ) → length names ≡ 72 → HintUsable (record { params = params; count = count }) starts → NamesUsable (take count names) params starts
 hint_usable params count names starts long h =
     record {
       few_parameters = h.few_parameters;
-      few_names = omega (arith, part_long count names (omega (arith, h.few_names, h.few_parameters)), h.few_names);
+      few_names = omega (arith, length-take-le count names (omega (arith, h.few_names, h.few_parameters)), h.few_names);
       all_firsts = h.all_firsts;
       low = h.low;
     }

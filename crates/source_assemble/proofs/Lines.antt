@@ -12,11 +12,6 @@ pub record Walked (bytes : List ℕ) (place line column i : ℕ) : Type 0 where
   pub line_left : line_from 1 place bytes ≡ line_from line (place - i) (drop i bytes)
   pub column_left : column_from 1 place bytes ≡ column_from column (place - i) (drop i bytes)
 
-pub walk_starts : (bytes : List ℕ) (place : ℕ) → Walked bytes place 1 1 0
-walk_starts bytes place =
-    let z : place - 0 ≡ place = omega arith in
-    record { within = omega arith; few_lines = omega arith; few_columns = omega arith; line_left = rw z; column_left = rw z }
-
 pub walk_on : (bytes : List ℕ) (place line column i l c : ℕ) → Walked bytes place line column i → i < place → place ≤ length bytes
     → l ≡ line_after line (get_or bytes i 0) → l ≤ line + 1 → c ≡ column_after column (get_or bytes i 0) → c ≤ column + 1 → Walked bytes place l c (i + 1)
 unfolding line_from column_from

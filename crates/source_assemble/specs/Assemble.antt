@@ -1,5 +1,5 @@
 -- What the runs of the reading hand to each other, and what assemble answers by it.
-use Rattle.std.specs.Prelude.{Option, None, Some, ℕ, ◌+◌, ◌*◌, ◌≤◌, ◌≡◌, List, ◌++◌, length, take, drop, ltb, eqb}
+use Rattle.std.specs.Prelude.{Option, None, Some, Result, Ok, Err, ℕ, ◌+◌, ◌*◌, ◌≤◌, ◌≡◌, List, ◌++◌, length, take, drop, ltb, eqb}
 use Rattle.lib_base.specs.Basics.{pick, All}
 use Rattle.spec_language.specs.Limits.{behaviour_limit, sheet_bytes}
 use Rattle.text_formula.specs.Answer.{answered}
@@ -36,6 +36,11 @@ fault_numbered bytes f = number f.kind * 72057594037927936 + place_told bytes f.
 pub record TellsFault (long : ℕ) (f : Fault) : Type 0 where
   pub a_place : f.place ≤ long
   pub low : f.place ≤ 65536
+
+-- what was found, how many bytes or a fault in a text, is told as this answer with this buffer
+abbrev pub ToldAs : List ℕ → Result ℕ Fault → List ℕ → ℕ × List ℕ → Type 0
+ToldAs bytes (Ok n) buffer answer = (n ≤ 8192) × (answered (4294967296 + n) buffer ≡ answer)
+ToldAs bytes (Err f) buffer answer = TellsFault (length bytes) f × (answered (fault_numbered bytes f) buffer ≡ answer)
 
 -- names mean what the text declares them to
 abbrev pub NamesResolved : List ℕ → (List ℕ → NameMeaning) → OrFault Text → Type 0

@@ -11,7 +11,7 @@ ghost use Rattle.source_coding.specs.Places.{meaning_in};
 ghost use Rattle.source_behaviours.specs.Whole.{NamesUsable, TextRead};
 ghost use Rattle.source_assemble.specs.AssembleNumber.{assemble_number};
 ghost use Rattle.source_assemble.specs.Assemble.{RoomToRead, line_after, column_after, place_told, fault_numbered};
-ghost use Rattle.source_assemble.specs.Assemble.{TellsFault, NamesResolved, sheet_answer, ReadRight};
+ghost use Rattle.source_assemble.specs.Assemble.{TellsFault, ToldAs, NamesResolved, sheet_answer, ReadRight};
 ghost use Rattle.source_coding.specs.Bounds.{name_limit, text_bytes};
 ghost use Rattle.source_coding.specs.Faults.{kind_unit};
 ghost use Rattle.spec_language.specs.Limits.{sheet_bytes};
@@ -22,27 +22,26 @@ use source_coding::{faults, limits};
 use source_hint::{hint_of, is_right};
 use spec_language::{answers, limits as sheet};
 
-// What ends a line.
-const LINE_FEED: u8 = 10;
-
 // The line and the column after a byte.
+#[tactic(auto, using(lib_base::proofs::Pick::branches))]
 fn line_after(line: u64, b: u8) -> u64
     requires { line ≤ text_bytes }
     ensures value { result ≡ line_after line b }
     ensures upper_bound { result ≤ line + 1 }
 {
-    if b == LINE_FEED {
+    if b == b'\n' {
         return line + 1;
     }
     line
 }
 
+#[tactic(auto, using(lib_base::proofs::Pick::branches))]
 fn column_after(column: u64, b: u8) -> u64
     requires { column ≤ text_bytes }
     ensures value { result ≡ column_after column b }
     ensures upper_bound { result ≤ column + 1 }
 {
-    if b == LINE_FEED {
+    if b == b'\n' {
         return 1;
     }
     column + 1
@@ -57,11 +56,9 @@ fn place_told(text: &[u8], place: usize) -> u64
 {
     let mut line = 1u64;
     let mut column = 1u64;
-    let mut i = 0;
-    while i < place {
-        line = line_after(line, text[i]);
-        column = column_after(column, text[i]);
-        i += 1;
+    for &b in &text[..place] {
+        line = line_after(line, b);
+        column = column_after(column, b);
     }
     line * faults::TOLD_LINE + column
 }
@@ -75,42 +72,42 @@ fn fault_told(text: &[u8], fault: Fault) -> u64
 }
 
 // The sheet's n bytes to the buffer, unless they are too many for a sheet or for the buffer.
-fn put_result(text: &[u8], n: usize, out: &[u8], buffer: &mut [u8]) -> u64
+fn put_result(text: &[u8], n: usize, out: &[u8], buffer: &mut [u8]) -> Result<usize, Fault>
     requires text_len_bound { length text.now ≤ text_bytes }
     requires out_len { length out.now ≡ sheet_bytes }
-    ensures { answered result buffer.new ≡ sheet_answer text.now n out.now buffer.old }
+    ensures { ToldAs text.now result buffer.new (sheet_answer text.now n out.now buffer.old) }
 {
     if sheet::SHEET_BYTES < n {
-        return fault_told(
-            text,
-            Fault {
-                kind: Kind::LongSheet,
-                place: text.len(),
-            },
-        );
+        return Err(Fault {
+            kind: Kind::LongSheet,
+            place: text.len(),
+        });
     }
     if buffer.len() < n {
-        return fault_told(
-            text,
-            Fault {
-                kind: Kind::ShortBuffer,
-                place: text.len(),
-            },
-        );
+        return Err(Fault {
+            kind: Kind::ShortBuffer,
+            place: text.len(),
+        });
     }
-    buffer[..n].copy_from_slice(&out[0..n]);
-    answers::VALUE + (n as u64)
+    buffer[..n].copy_from_slice(&out[..n]);
+    Ok(n)
 }
 
 // What a reading found that had the right names: the first fault of a name, or the sheet.
-fn put_read(text: &[u8], end: usize, stray: Option<Fault>, out: &[u8], buffer: &mut [u8]) -> u64
+fn put_read(
+    text: &[u8],
+    end: usize,
+    stray: Option<Fault>,
+    out: &[u8],
+    buffer: &mut [u8],
+) -> Result<usize, Fault>
     requires text_len_bound { length text.now ≤ text_bytes }
     requires out_len { length out.now ≡ sheet_bytes }
     requires read_right { ReadRight text.now buffer.old out.now end stray }
-    ensures { answered result buffer.new ≡ assemble_number text.now buffer.old }
+    ensures { ToldAs text.now result buffer.new (assemble_number text.now buffer.old) }
 {
     if let Some(fault) = stray {
-        return fault_told(text, fault);
+        return Err(fault);
     }
     put_result(text, end, out, buffer)
 }
@@ -138,9 +135,9 @@ fn read_with(
     let mut meanings = [0usize; limits::NAMES];
     let n = names.len();
     source_index::put_in_order(text, names, &mut places);
-    source_index::put_meanings(text, names, params, firsts, &places[0..n], &mut meanings);
-    if source_index::all_found(text, names, &places[0..n]) {
-        return source_behaviours::read_at(text, &places[0..n], n, &meanings, declared, starts, out);
+    source_index::put_meanings(text, names, params, firsts, &places[..n], &mut meanings);
+    if source_index::all_found(text, names, &places[..n]) {
+        return source_behaviours::read_at(text, &places[..n], n, &meanings, declared, starts, out);
     }
     source_index::put_meanings(text, names, params, firsts, names, &mut meanings);
     source_behaviours::read_at(text, names, 0, &meanings, declared, starts, out)
@@ -154,19 +151,17 @@ fn second_run(
     firsts: &[usize],
     out: &mut [u8],
     buffer: &mut [u8],
-) -> u64
+) -> Result<usize, Fault>
     requires text_len_bound { length text.now ≤ text_bytes }
     requires names_usable { NamesUsable names.now params firsts.now }
     requires names_resolved { NamesResolved text.now (meaning_in text.now names.now params firsts.now) (read_text text.now) }
     requires out_len { length out.old ≡ sheet_bytes }
-    ensures { answered result buffer.new ≡ assemble_number text.now buffer.old }
+    ensures { ToldAs text.now result buffer.new (assemble_number text.now buffer.old) }
 {
     let mut declared = [0usize; limits::NAMES];
     let mut starts = [0usize; limits::FIRST_CELLS];
-    match read_with(text, names, params, firsts, &mut declared, &mut starts, out) {
-        Err(fault) => fault_told(text, fault),
-        Ok(reading) => put_read(text, reading.end, reading.stray, out, buffer),
-    }
+    let reading = read_with(text, names, params, firsts, &mut declared, &mut starts, out)?;
+    put_read(text, reading.end, reading.stray, out, buffer)
 }
 
 // The first run, with the names of a hint. What it finds is the answer where the text declares these names; and a fault
@@ -177,15 +172,15 @@ fn first_run(
     params: usize,
     firsts: &[usize],
     buffer: &mut [u8],
-) -> u64
+) -> Result<usize, Fault>
     requires text_len_bound { length text.now ≤ text_bytes }
     requires names_usable { NamesUsable names.now params firsts.now }
-    ensures { answered result buffer.new ≡ assemble_number text.now buffer.old }
+    ensures { ToldAs text.now result buffer.new (assemble_number text.now buffer.old) }
 {
     let mut declared = [0usize; limits::NAMES];
     let mut starts = [0usize; limits::FIRST_CELLS];
     let mut out = [0u8; sheet::SHEET_BYTES];
-    match read_with(
+    let reading = read_with(
         text,
         names,
         params,
@@ -193,34 +188,36 @@ fn first_run(
         &mut declared,
         &mut starts,
         &mut out,
-    ) {
-        Err(fault) => fault_told(text, fault),
-        Ok(reading) => {
-            let found = &declared[0..reading.count];
-            if is_right(names, params, firsts, found, reading.params, &starts) {
-                return put_read(text, reading.end, reading.stray, &out, buffer);
-            }
-            second_run(text, found, reading.params, &starts, &mut out, buffer)
-        }
+    )?;
+    let found = &declared[..reading.count];
+    if is_right(names, params, firsts, found, reading.params, &starts) {
+        return put_read(text, reading.end, reading.stray, &out, buffer);
     }
+    second_run(text, found, reading.params, &starts, &mut out, buffer)
 }
 
-// The sheet's bytes at the start of the buffer: 2 ^ 32 and their number; or the fault's kind, line and column.
-pub fn assemble_at(text: &[u8], buffer: &mut [u8]) -> u64
-    ensures { answered result buffer.new ≡ assemble_number text.now buffer.old }
+// The sheet's bytes at the start of the buffer, and how many they are.
+fn assembled(text: &[u8], buffer: &mut [u8]) -> Result<usize, Fault>
+    ensures { ToldAs text.now result buffer.new (assemble_number text.now buffer.old) }
 {
     if limits::TEXT_BYTES < text.len() {
-        return fault_told(
-            text,
-            Fault {
-                kind: Kind::LongText,
-                place: limits::TEXT_BYTES,
-            },
-        );
+        return Err(Fault {
+            kind: Kind::LongText,
+            place: limits::TEXT_BYTES,
+        });
     }
     let mut names = [0usize; limits::NAMES];
     let mut firsts = [0usize; limits::FIRST_CELLS];
     let hint = hint_of(text, &mut names, &mut firsts);
-    let count = hint.count;
-    first_run(text, &names[0..count], hint.params, &firsts, buffer)
+    first_run(text, &names[..hint.count], hint.params, &firsts, buffer)
+}
+
+// The same as a number: 2 ^ 32 and how many bytes; or the fault's kind, line and column.
+pub fn assemble_at(text: &[u8], buffer: &mut [u8]) -> u64
+    ensures { answered result buffer.new ≡ assemble_number text.now buffer.old }
+{
+    match assembled(text, buffer) {
+        Ok(n) => answers::VALUE + (n as u64),
+        Err(fault) => fault_told(text, fault),
+    }
 }
