@@ -1,23 +1,18 @@
--- The small pieces of behaviours: a name, a row's count, a first word, and the text's end.
-use Rattle.std.specs.Prelude.{Ok, Err, None, Some}
+-- The small pieces of behaviours: a name, and a row's count.
+use Rattle.std.specs.Prelude.{Err}
 use Rattle.source_coding.specs.declared.faults.Fault.{Fault}
-use Rattle.lib_base.proofs.Prelude.{ℕ, ◌≤◌, ◌<◌, ◌≡◌, refl, ap, true, false, List, []}
-use Rattle.lib_base.proofs.Prelude.{◌∷◌, leb, ne_eqb, eq-eqb, lt-leb, le-leb, arith}
-use Rattle.lib_base.specs.Basics.{pick}
-use Rattle.source_language.specs.Tokens.{SheetToken, name, sign, bracket, unbracket, passive_word, row_word, end_sign}
-use Rattle.source_language.specs.Text.{Text}
+use Rattle.lib_base.proofs.Prelude.{ℕ, ◌≡◌, refl, true, false, List}
+use Rattle.lib_base.proofs.Prelude.{◌∷◌, ne_eqb, eq-eqb}
+use Rattle.source_language.specs.Tokens.{name, sign, bracket, unbracket, row_word}
 use Rattle.source_language.specs.Faults.{outside, declared_twice_fault}
 use Rattle.source_language.specs.Limits.{among}
-use Rattle.source_language.specs.Reader.{got, place_at, sign_at, sign_in, behaviour_begins, text_ends}
-use Rattle.source_coding.specs.FaultWords.{fault_of, fault_in}
+use Rattle.source_language.specs.Reader.{got, place_at, sign_at}
+use Rattle.source_coding.specs.FaultWords.{fault_of}
 use Rattle.source_coding.specs.Places.{tokens_from, name_at, names_held}
-use Rattle.source_tokens.specs.declared.Token.{Token}
-use Rattle.source_tokens.specs.declared.Token.TheVariants.{Number, Name, Sign}
-use Rattle.source_tokens.specs.Token.{TokenAt}
 use Rattle.source_due.specs.Due.{Due, found, NoName}
 use Rattle.source_handlers.specs.Parts.{DueRead}
 use Rattle.source_handlers.proofs.Events.{no_name, no_sign, past_there}
-use Rattle.source_behaviours.specs.Behaviours.{new_name, closed_cells, counted_cells, cells_said, NamedAt, CountIs, CellsWithin, EndFault}
+use Rattle.source_behaviours.specs.Behaviours.{new_name, closed_cells, counted_cells, cells_said, NamedAt, CountIs}
 
 -- ---- a name
 
@@ -55,43 +50,3 @@ module _ (text : List ℕ) (at i c : ℕ) where
   pub row_opened : (q next : ℕ) (r : Due) → c ≡ row_word → tokens_from text at ≡ sign q bracket ∷ tokens_from text next → DueRead CountIs text r (counted_cells i (tokens_from text next))
       → DueRead CountIs text r (cells_said i c (tokens_from text at))
   row_opened q next r e h d = rw (eq-eqb c row_word e, past_there bracket q (counted_cells i) (tokens_from text at) (tokens_from text next) h) d
-
--- ---- a word that begins a behaviour, and the end
-
-no_word : (text : List ℕ) (at : ℕ) (t : Token) → ((p c next : ℕ) → t ≡ Sign p c next → ⊥) → TokenAt text at t → sign_at (tokens_from text at) ≡ 0
-no_word text at (Number p v next) k (n, e, f) = rw e
-no_word text at (Name p next) k e = rw e
-no_word text at (Sign p c next) k e = absurd (k p c next refl)
-
-module _ (text : List ℕ) (at : ℕ) (t : Token) (told : TokenAt text at t) where
-  pub word_missing : ((p c next : ℕ) → t ≡ Sign p c next → ⊥) → behaviour_begins (sign_at (tokens_from text at)) ≡ false
-  unfolding behaviour_begins
-  word_missing k = rw (no_word text at t k told)
-
-  module _ (p c next : ℕ) (is : t ≡ Sign p c next) where
-    pub word_before : c < passive_word → behaviour_begins (sign_at (tokens_from text at)) ≡ false
-    unfolding behaviour_begins
-    word_before h = let e = rw is at told in rw (e, lt-leb passive_word c h)
-
-    pub word_behind : row_word < c → behaviour_begins (sign_at (tokens_from text at)) ≡ false
-    unfolding behaviour_begins
-    word_behind h = let e = rw is at told in rw (e, le-leb passive_word c (omega arith), lt-leb c row_word h)
-
-    pub word_here : (c < passive_word → ⊥) → (row_word < c → ⊥) → (tokens_from text at ≡ sign p c ∷ tokens_from text next) × (behaviour_begins c ≡ true)
-    unfolding behaviour_begins
-    word_here g h =
-        let e = rw is at told in
-        (rw (lt-leb end_sign c (omega arith)) at e, rw (le-leb passive_word c (omega arith), le-leb c row_word (omega arith)))
-
--- another sign, or none, stands there: not the end
-other_end : (x : Text) (w : Fault) (ts : List SheetToken) → (sign_at ts ≡ end_sign → ⊥) → w ≡ fault_of outside (place_at ts) → Some w ≡ fault_in (text_ends x ts)
-other_end x w [] h e = ap Some e
-other_end x w (t ∷ []) h e = rw (ne_eqb (sign_in t) end_sign h) (ap Some e)
-other_end x w (t ∷ u ∷ ts) h e = ap Some e
-
-module _ (text : List ℕ) (at : ℕ) (t : Token) (told : TokenAt text at t) where
-  pub end_elsewhere : (p c next : ℕ) (w : Fault) → t ≡ Sign p c next → (c ≡ end_sign → ⊥) → w ≡ fault_of outside p → EndFault text at (Some w)
-  end_elsewhere p c next w i k h x = let e = rw i at told in rw e (other_end x w (sign p c ∷ pick (leb end_sign c) [] (tokens_from text next)) k h)
-
-  pub end_here : (p c next : ℕ) → t ≡ Sign p c next → c ≡ end_sign → EndFault text at None
-  end_here p c next i k x = let e = rw (i, k) at told in rw e

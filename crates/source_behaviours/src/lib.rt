@@ -227,26 +227,21 @@ fn behaviour_at(
 }
 
 // A word that begins a behaviour, if one stands there: its place, its sign's number, and the place behind it.
+#[tactic(auto, using(lib_base::proofs::Pick::branches), unfolding(source_language::specs::Reader::behaviour_begins))]
 fn heading_at(text: &[u8], at: usize) -> Option<Found>
     requires text_len_bound { length text.now ≤ text_bytes }
     requires at_in_bounds { at ≤ length text.now }
     ensures word_read { WordRead text.now at result }
     ensures word_within { WordWithin (length text.now) at result }
 {
-    let Token::Sign(place, c, next) = source_tokens::token_at(text, at) else {
-        return None;
-    };
-    if c < signs::PASSIVE {
-        return None;
+    match source_tokens::token_at(text, at) {
+        Token::Sign(place, c @ signs::PASSIVE..=signs::ROW, next) => Some(Found {
+            place,
+            number: c as u64,
+            next,
+        }),
+        _ => None,
     }
-    if signs::ROW < c {
-        return None;
-    }
-    Some(Found {
-        place,
-        number: c as u64,
-        next,
-    })
 }
 
 // The behaviours from a place on. The places of their names go behind those that are taken of `names`, the numbers of
@@ -278,10 +273,7 @@ fn behaviours_at(
         stray: None,
     };
     let mut i = 0usize;
-    loop {
-        let Some(word) = heading_at(text, all.next) else {
-            return Ok(all);
-        };
+    while let Some(word) = heading_at(text, all.next) {
         let heading = Heading {
             at: word.next,
             place: word.place,
@@ -301,7 +293,7 @@ fn behaviours_at(
             out,
         )?;
         names[all.count] = one.place;
-        i = i + one.cells;
+        i += one.cells;
         all = Behaviours {
             next: one.next,
             count: all.count + 1,
@@ -310,6 +302,7 @@ fn behaviours_at(
         };
         starts[all.count - begun.taken] = i;
     }
+    Ok(all)
 }
 
 // The fault where the text does not end.
@@ -318,20 +311,13 @@ fn end_fault(text: &[u8], at: usize) -> Option<Fault>
     requires at_in_bounds { at ≤ length text.now }
     ensures { EndFault text.now at result }
 {
-    let t = source_tokens::token_at(text, at);
-    let Token::Sign(place, c, _) = t else {
-        return Some(Fault {
+    match source_tokens::token_at(text, at) {
+        Token::Sign(_, signs::END, _) => None,
+        t => Some(Fault {
             kind: Kind::Outside,
             place: source_tokens::place_of(t),
-        });
-    };
-    if c != signs::END {
-        return Some(Fault {
-            kind: Kind::Outside,
-            place,
-        });
+        }),
     }
-    None
 }
 
 // A text, in which names mean what `places`, `sorted` and `meanings` say. What it declares goes to `names` and

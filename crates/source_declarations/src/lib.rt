@@ -66,10 +66,7 @@ fn more_players(text: &[u8], at: usize) -> Rights
 {
     let mut here = at;
     let mut bits = 0u64;
-    loop {
-        let Token::Number(place, player, next) = source_tokens::token_at(text, here) else {
-            return Ok(Given { next: here, bits });
-        };
+    while let Token::Number(place, player, next) = source_tokens::token_at(text, here) {
         if limits::LARGEST < player {
             return Err(Fault {
                 kind: Kind::LargeNumber,
@@ -85,6 +82,7 @@ fn more_players(text: &[u8], at: usize) -> Rights
         bits = with_player(bits, player);
         here = next;
     }
+    Ok(Given { next: here, bits })
 }
 
 // Players: `nobody`, or one or more numbers.
@@ -205,19 +203,17 @@ pub fn parameters_at(text: &[u8], at: usize, names: &mut [usize]) -> Result<Decl
 {
     let mut here = at;
     let mut count = 0usize;
-    loop {
-        let Ok(word) = sign_due(text, here, signs::PARAM) else {
-            return Ok(Declared {
-                next: here,
-                count,
-                end: 0,
-            });
-        };
+    while let Ok(word) = sign_due(text, here, signs::PARAM) {
         let parameter = parameter_at(text, word.place, word.next, names, count)?;
         names[count] = parameter.place;
         count += 1;
         here = parameter.next;
     }
+    Ok(Declared {
+        next: here,
+        count,
+        end: 0,
+    })
 }
 
 // The event whose name stands at a place, from the place behind that on.
@@ -295,18 +291,16 @@ pub fn events_at(
     let mut here = at;
     let mut count = 0usize;
     let mut end = n;
-    loop {
-        let Ok(word) = sign_due(text, here, signs::EVENT) else {
-            return Ok(Declared {
-                next: here,
-                count,
-                end,
-            });
-        };
+    while let Ok(word) = sign_due(text, here, signs::EVENT) {
         let event = event_from(text, word.place, word.next, events, count)?;
         events[count] = event.place;
         end = sheet_write::put_event(out, end, event.rank as u8, event.bits);
         count += 1;
         here = event.next;
     }
+    Ok(Declared {
+        next: here,
+        count,
+        end,
+    })
 }

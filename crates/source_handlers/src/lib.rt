@@ -152,10 +152,7 @@ pub fn handlers_at(
         end: cursor.end,
         stray: None,
     };
-    loop {
-        let Ok(on) = sign_due(text, part.next, signs::ON) else {
-            return Ok(part);
-        };
+    while let Ok(on) = sign_due(text, part.next, signs::ON) {
         let event = event_due(text, on.next, events, &handled)?;
         let body = Cursor {
             at: event.next,
@@ -170,4 +167,5 @@ pub fn handlers_at(
             stray: part.stray.or(handler.stray),
         };
     }
+    Ok(part)
 }

@@ -9,8 +9,8 @@ loop-word-init c =
     let p = c.requires in
     turn_start _ _ _ _ _ _ _ _ c.args.starts.now p.1.0 p.1.1.1.1.1.1.0 p.1.1.1.1.1.1.1.0 p.1.1.1.1.1.1.1.1.0.0 p.1.1.1.1.1.1.1.1.0.1
 
-pub returns-in_default-clause-behaviours_read : goal.returns-in_default-clause-behaviours_read
-returns-in_default-clause-behaviours_read c =
+pub returns-clause-behaviours_read : goal.returns-clause-behaviours_read
+returns-clause-behaviours_read c =
     let t = c.loop-word.invariant in
     let h = rw c.in_default.is at c.heading_at.ensures.word_read in
     turn_over _ _ _ _ _ _ _ _ t h

@@ -7,8 +7,8 @@ use Rattle.source_declarations.proofs.events_at.Goals as goal
 pub loop-word-init : goal.loop-word-init
 loop-word-init c = let pre = c.requires in events_start _ _ _ _ _ pre.1.0 pre.1.1.0 pre.1.1.1
 
-pub returns-in_default-clause-events_read : goal.returns-in_default-clause-events_read
-returns-in_default-clause-events_read c = events_stop _ _ c.loop-word.invariant c.sign_due.ensures.sign_told c.in_default.is
+pub returns-clause-events_read : goal.returns-clause-events_read
+returns-clause-events_read c = events_stop _ _ c.loop-word.invariant c.sign_due.ensures.sign_told c.in_default.is
 
 pub returns-in_err-event-clause-events_read : goal.returns-in_err-event-clause-events_read
 returns-in_err-event-clause-events_read c =

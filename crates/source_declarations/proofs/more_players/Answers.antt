@@ -9,8 +9,8 @@ loop-place-init c = players_start _ _ c.requires.at_in_bounds
 pub token_at-requires-clause-at_in_bounds : goal.token_at-requires-clause-at_in_bounds
 token_at-requires-clause-at_in_bounds c = c.loop-place.invariant.within
 
-pub returns-in_default : goal.returns-in_default
-returns-in_default c =
+pub returns : goal.returns
+returns c =
     let turn = c.loop-place.invariant in
     record {
       rights_read = players_end _ turn c.token_at.ensures.token_at c.in_default.not-Number;

@@ -6,8 +6,8 @@ use Rattle.source_declarations.proofs.parameters_at.Goals as goal
 pub loop-word-init : goal.loop-word-init
 loop-word-init c = parameters_start _ _ _ c.requires.at_in_bounds c.requires.names_len
 
-pub returns-in_default-clause-parameters_read : goal.returns-in_default-clause-parameters_read
-returns-in_default-clause-parameters_read c = parameters_stop _ _ c.loop-word.invariant c.sign_due.ensures.sign_told c.in_default.is
+pub returns-clause-parameters_read : goal.returns-clause-parameters_read
+returns-clause-parameters_read c = parameters_stop _ _ c.loop-word.invariant c.sign_due.ensures.sign_told c.in_default.is
 
 pub returns-in_err-parameter-clause-parameters_read : goal.returns-in_err-parameter-clause-parameters_read
 returns-in_err-parameter-clause-parameters_read c =

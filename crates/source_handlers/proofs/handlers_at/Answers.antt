@@ -7,8 +7,8 @@ use Rattle.source_handlers.proofs.handlers_at.Goals as goal
 pub loop-on-init : goal.loop-on-init
 loop-on-init c = turn_start _ _ _ _ _ _ _ c.requires.readable.1.0
 
-pub returns-in_default-clause-handlers_read : goal.returns-in_default-clause-handlers_read
-returns-in_default-clause-handlers_read c =
+pub returns-clause-handlers_read : goal.returns-clause-handlers_read
+returns-clause-handlers_read c =
     let h = rw c.in_default.is at c.sign_due.ensures.sign_told in
     turn_over _ _ _ _ _ _ _ c.loop-on.invariant h.0
 
