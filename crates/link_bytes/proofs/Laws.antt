@@ -1,9 +1,9 @@
 -- Laws of the turns over behaviours: counting them, copying them with their names moved up, and parts written one after
 -- another.
-use Rattle.lib_base.proofs.Prelude.{ℕ, ◌≤◌, ◌<◌, ◌+◌, ◌-◌, suc, ◌*◌, ◌≡◌, refl, ◌∙◌, sym, ap, ◌≢◌, List, [], ◌∷◌, ◌++◌}
+use Rattle.lib_base.proofs.Prelude.{ℕ, ◌≤◌, ◌<◌, ◌+◌, ◌-◌, zero, suc, ◌*◌, ◌≡◌, by_cases, dec_lt, refl, ◌∙◌, sym, ap, ◌≢◌, List, [], ◌∷◌, ◌++◌}
 use Rattle.lib_base.proofs.Prelude.{append_assoc, append-nil, length, get_or, take, drop, length-set, set, length-append}
 use Rattle.lib_base.proofs.Prelude.{length-drop, drop_of_length-le, drop-cons, take-suc-set, eqb, add-one, ne_eqb}
-use Rattle.lib_base.proofs.Prelude.{eq-eqb, arith}
+use Rattle.lib_base.proofs.Prelude.{arith}
 use Rattle.lib_base.specs.Basics.{pick}
 use Rattle.sheet_walk.specs.Fields.{after_field, cells_in_front}
 use Rattle.sheet_walk.specs.Scanner.{left_after, tag_after}
@@ -19,16 +19,18 @@ pub record Counted (s : List ℕ) (i at c n : ℕ) : Type 0 where
   pub few : c ≤ 255 * n
   pub turns : n ≤ 64
 
-pub count_start : (s : List ℕ) (i : ℕ) → i ≤ length s → Counted s i i 0 0
-count_start s i h = record { whole = refl; inside = h; few = omega arith; turns = omega arith }
-
 count_opens : (m : ℕ) (b : List ℕ) (c : ℕ) → count_from (suc m) b c ≡ pick (eqb (length b) 0) c (count_from m (after_field b) (c + cells_in_front b))
 unfolding count_from
 count_opens m b c = refl
 
-none_left : (b : List ℕ) (c : ℕ) → count_from 0 b c ≡ c
+count_none : (b : List ℕ) (c : ℕ) → count_from 0 b c ≡ c
 unfolding count_from
-none_left b c = refl
+count_none b c = refl
+
+none_left : (m c : ℕ) → count_from m [] c ≡ c
+unfolding count_from
+none_left zero c = refl
+none_left (suc m) c = refl
 
 module _ {s : List ℕ} {i at c n : ℕ} (u : Counted s i at c n) where
   opened : n < 64 → count_from (64 - n) (drop at s) c ≡ pick (eqb (length (drop at s)) 0) c (count_from (64 - (n + 1)) (after_field (drop at s)) (c + cells_in_front (drop at s)))
@@ -44,15 +46,14 @@ module _ {s : List ℕ} {i at c n : ℕ} (u : Counted s i at c n) where
         turns = omega arith;
       }
 
-  pub count_stops : n < 64 → at ≡ length s → (c ≡ count_from 64 (drop i s) 0) × (c ≤ 16320)
-  count_stops h e =
-      let none : length (drop at s) ≡ 0 = simp length-drop (omega arith) in
-      (sym (opened h ∙ rw (eq-eqb (length (drop at s)) 0 none)) ∙ u.whole, omega (arith, u.few, u.turns))
+  pub count_end : (n < 64 → at ≡ length s) → c ≡ count_from 64 (drop i s) 0
+  count_end h = sym (by_cases (dec_lt n 64) ended full) ∙ u.whole
+    where
+      ended : n < 64 → count_from (64 - n) (drop at s) c ≡ c
+      ended l = let d : drop at s ≡ [] = drop_of_length-le s (omega (arith, h l)) in rw d (none_left (64 - n) c)
 
-  pub count_end : 64 ≤ n → (c ≡ count_from 64 (drop i s) 0) × (c ≤ 16320)
-  count_end h =
-      let z : 64 - n ≡ 0 = omega arith in
-      (sym (ap (λ (m : ℕ). count_from m (drop at s) c) z ∙ none_left (drop at s) c) ∙ u.whole, omega (arith, u.few, u.turns))
+      full : (n < 64 → ⊥) → count_from (64 - n) (drop at s) c ≡ c
+      full l = let z : 64 - n ≡ 0 = omega (arith, u.turns) in rw z (count_none (drop at s) c)
 
 -- ---- copying
 
@@ -61,28 +62,23 @@ unfolding scan
 length_scan m t k [] = refl
 length_scan m t k (b ∷ bs) = ap suc (length_scan m (tag_after t k b) (left_after k b) bs)
 
-pub record Moving (s o₀ o : List ℕ) (i m k at to tag left : ℕ) : Type 0 where
-  pub whole : take to o ++ scan m tag left (drop at s) ≡ take k o₀ ++ scan m 0 0 (drop i s)
-  pub inside : at ≤ length s
-  pub count : to + (length s - at) ≡ k + (length s - i)
-  pub room : k + (length s - i) ≤ length o₀
+pub record Moving (bs o₀ o : List ℕ) (m k at to tag left : ℕ) : Type 0 where
+  pub whole : take to o ++ scan m tag left (drop at bs) ≡ take k o₀ ++ scan m 0 0 bs
+  pub count : to ≡ k + at
+  pub room : k + length bs ≤ length o₀
   pub kept : length o ≡ length o₀
 
-pub moving_start : (s o : List ℕ) (i m k : ℕ) → i ≤ length s → k + (length s - i) ≤ length o → Moving s o o i m k i k 0 0
-moving_start s o i m k h r = record { whole = refl; inside = h; count = refl; room = r; kept = refl }
-
-pub moving_on : {s o₀ o : List ℕ} {i m k at to tag left b x y z : ℕ} → Moving s o₀ o i m k at to tag left → at < length s → b ≡ get_or s at 0 → x ≡ moved_byte m tag left b
-    → z ≡ tag_after tag left b → y ≡ left_after left b → Moving s o₀ (set o to x) i m k (at + 1) (to + 1) z y
+pub moving_on : {bs o₀ o : List ℕ} {m k at to tag left b x y z : ℕ} → Moving bs o₀ o m k at to tag left → at < length bs → b ≡ get_or bs at 0 → x ≡ moved_byte m tag left b
+    → z ≡ tag_after tag left b → y ≡ left_after left b → Moving bs o₀ (set o to x) m k (at + 1) (to + 1) z y
 unfolding scan
-moving_on {s} {o₀} {o} {i} {m} {k} {at} {to} {tag} {left} {b} {x} {y} {z} u h e p g q =
+moving_on {bs} {o₀} {o} {m} {k} {at} {to} {tag} {left} {b} {x} {y} {z} u h e p g q =
     let c = u.count in
     let r = u.room in
     let l = u.kept in
     let t : to < length o = omega arith in
     record {
-      whole = rw (add-one to, add-one at, take-suc-set o to x t, append_assoc (take to o) (x ∷ []) (scan m z y (drop (suc at) s)))
-          (ap (λ (v : List ℕ). take to o ++ v) (rw (p, g, q, e) (sym (rw (drop-cons s at 0 h)))) ∙ u.whole);
-      inside = omega arith;
+      whole = rw (add-one to, add-one at, take-suc-set o to x t, append_assoc (take to o) (x ∷ []) (scan m z y (drop (suc at) bs)))
+          (ap (λ (v : List ℕ). take to o ++ v) (rw (p, g, q, e) (sym (rw (drop-cons bs at 0 h)))) ∙ u.whole);
       count = omega arith;
       room = r;
       kept = rw length-set l;
@@ -92,13 +88,11 @@ empty : (m t k : ℕ) → scan m t k [] ≡ []
 unfolding scan
 empty m t k = refl
 
-pub moving_end : {s o₀ o : List ℕ} {i m k at to tag left : ℕ} → Moving s o₀ o i m k at to tag left → length s ≤ at → BytesWritten o₀ k (scan m 0 0 (drop i s)) o to
-moving_end {s} {o₀} {o} {i} {m} {k} {at} {to} {tag} {left} u h =
-    let z : length s - at ≡ 0 = omega arith in
-    let c = u.count in
-    let d : drop at s ≡ [] = drop_of_length-le s h in
+pub moving_end : {bs o₀ o : List ℕ} {m k at to tag left : ℕ} → Moving bs o₀ o m k at to tag left → length bs ≡ at → BytesWritten o₀ k (scan m 0 0 bs) o to
+moving_end {bs} {o₀} {o} {m} {k} {at} {to} {tag} {left} u h =
+    let d : drop at bs ≡ [] = drop_of_length-le bs (omega arith) in
     record {
-      up_to = rw (length_scan m 0 0 (drop i s), length-drop i s) (omega arith);
+      up_to = rw (length_scan m 0 0 bs, h) u.count;
       bytes = sym (append-nil (take to o)) ∙ ap (λ (v : List ℕ). take to o ++ v) (sym (ap (scan m tag left) d ∙ empty m tag left)) ∙ u.whole;
     }
 

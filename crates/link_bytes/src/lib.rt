@@ -12,6 +12,7 @@ ghost use Rattle.link_events.specs.Sizes.{events_room};
 ghost use Rattle.spec_language.specs.Limits.{behaviour_limit};
 
 use sheet_field::tags;
+use sheet_walk::Scanner;
 use spec_language::limits;
 
 const BYTE: usize = lib_word::BYTE_VALUES as usize;
@@ -22,24 +23,20 @@ fn count(s: &[u8], i: usize) -> usize
     ensures value { result ≡ count_from behaviour_limit (drop i s.now) 0 }
     ensures upper_bound { result ≤ most_written }
 {
-    let mut at = i;
     let mut c = 0usize;
-    for _ in 0..limits::BEHAVIOURS {
-        if at == s.len() {
-            return c;
-        }
+    for at in sheet_walk::field_places(s, i).take(limits::BEHAVIOURS) {
         c += sheet_walk::cells_at(s, at);
-        at = sheet_walk::after_field(s, at);
     }
     c
 }
 
-// A byte, moved up where it is a name's: the scanner has `tag` and `left` before it.
-fn lift(m: usize, tag: u8, left: usize, b: u8) -> u8
+// A byte, moved up where it is a name's, as the scanner before it says.
+#[tactic(auto, using(lib_base::proofs::Pick::branches), unfolding(crate::specs::Splice::moved_byte))]
+fn lift(scanner: &Scanner, m: usize, b: u8) -> u8
     requires { m ≤ most_written }
-    ensures { result ≡ moved_byte m tag left b }
+    ensures { result ≡ moved_byte m scanner.now.tag scanner.now.left b }
 {
-    if sheet_walk::is_number(tags::NAME, tag, left) {
+    if scanner.is_number(tags::NAME) {
         return (((b as usize) + m) % BYTE) as u8;
     }
     b
@@ -52,12 +49,10 @@ fn put_moved(s: &[u8], i: usize, m: usize, out: &mut [u8], k: usize) -> usize
     ensures value { result ≡ k + (length s.now - i) }
 {
     let mut to = k;
-    let mut tag = 0u8;
-    let mut left = 0usize;
-    for at in i..s.len() {
-        out[to] = lift(m, tag, left, s[at]);
-        tag = sheet_walk::tag_after(tag, left, s[at]);
-        left = sheet_walk::left_after(left, s[at]);
+    let mut scanner = Scanner::default();
+    for &b in &s[i..] {
+        out[to] = lift(&scanner, m, b);
+        scanner.pass(b);
         to += 1;
     }
     to

@@ -5,8 +5,9 @@
 
 #![tactic(auto)]
 
-ghost use Rattle.std.specs.Prelude.{◌≡◌, ◌<◌, ◌≤◌, ◌+◌, length, get_or, drop};
-ghost use Rattle.sheet_walk.specs.Fields.{after_field, word_in_front, past_fields, cells_in_front};
+ghost use Rattle.std.specs.Prelude.{◌≡◌, ◌<◌, ◌≤◌, ◌+◌, ◌-◌, length, get_or, drop};
+ghost use Rattle.std.specs.Iterator.{at_most};
+ghost use Rattle.sheet_walk.specs.Fields.{after_field, word_in_front, past_fields, cells_in_front, FieldGiven};
 ghost use Rattle.sheet_walk.specs.Scanner.{until_tag, left_after, tag_after, is_number};
 ghost use Rattle.lib_base.specs.Words.{highest_byte, word_values};
 
@@ -29,10 +30,7 @@ pub fn onward(s: &[u8], at: usize, n: usize) -> usize
     ensures s_value { drop result s.now ≡ drop n (drop at s.now) }
     ensures upper_bound { result ≤ length s.now }
 {
-    if s.len() - at < n {
-        return s.len();
-    }
-    at + n
+    at.saturating_add(n).min(s.len())
 }
 
 // The place behind the field at a place, by the field reader, whatever its tag; the end where the reader finds none.
@@ -62,20 +60,52 @@ pub fn word_from(s: &[u8], at: usize) -> u64
     u32::from_be_bytes(bytes) as u64
 }
 
+// The walk over a sheet's fields: the place of each from `at` on, whatever its tag, to the sheet's end.
+#[derive(Drop)]
+pub struct FieldPlaces<'a> {
+    pub sheet: &'a [u8],
+    pub at: usize,
+    ghost inside: { at ≤ length sheet.now },
+}
+
+impl<'a> Iterator for FieldPlaces<'a> {
+    type Item = usize;
+
+    ghost next_gives = { λ it r other. FieldGiven it.sheet.now it.at r other.sheet.now other.at };
+
+    ghost remaining = { λ it. at_most (length it.sheet.now - it.at) };
+
+    fn next(&mut self) -> Option<usize> {
+        let at = self.at;
+        if at == self.sheet.len() {
+            return None;
+        }
+        self.at = after_field(self.sheet, at);
+        Some(at)
+    }
+}
+
+// The fields' places from a place on.
+pub fn field_places(sheet: &[u8], from: usize) -> FieldPlaces
+    requires { from ≤ length sheet.now }
+    ensures sheet { result.sheet.now ≡ sheet.now }
+    ensures place { result.at ≡ from }
+{
+    FieldPlaces { sheet, at: from }
+}
+
 // The place behind the fields of a tag that stand there.
 pub fn past_fields(s: &[u8], from: usize, tag: u8) -> usize
     requires { from ≤ length s.now }
     ensures s_value { drop result s.now ≡ past_fields tag (length s.now) (drop from s.now) }
     ensures upper_bound { result ≤ length s.now }
 {
-    let mut at = from;
-    for _ in 0..s.len() {
+    for at in field_places(s, from) {
         if byte_from(s, at, 0) != tag {
             return at;
         }
-        at = after_field(s, at);
     }
-    at
+    s.len()
 }
 
 // How many behaviours the field at a place stands for.
@@ -114,26 +144,34 @@ fn until_tag(b: u8) -> usize
     }
 }
 
-// The same after one more byte: `left` stood before the next tag, and the byte is a tag where none did.
-#[tactic(auto, using(lib_base::proofs::Pick::branches), unfolding(crate::specs::Scanner::left_after))]
-pub fn left_after(left: usize, b: u8) -> usize
-    ensures { result ≡ left_after left b }
-{
-    if left == 0 { until_tag(b) } else { left - 1 }
+// A walk from byte to byte: the tag met last, and how many bytes stand before the next one. It begins at a tag, with
+// none before it.
+#[derive(Drop, Default)]
+pub struct Scanner {
+    pub tag: u8,
+    pub left: usize,
 }
 
-// The tag met last, after one more byte.
-#[tactic(auto, using(lib_base::proofs::Pick::branches), unfolding(crate::specs::Scanner::tag_after))]
-pub fn tag_after(tag: u8, left: usize, b: u8) -> u8
-    ensures { result ≡ tag_after tag left b }
-{
-    if left == 0 { b } else { tag }
-}
+impl Scanner {
+    // Whether the byte that comes is the number in a field of the tag `of`: the last byte behind that tag.
+    #[tactic(auto, using(lib_base::proofs::Pick::branches), unfolding(crate::specs::Scanner::is_number))]
+    pub fn is_number(&self, of: u8) -> bool
+        ensures { result ≡ is_number of self.now.tag self.now.left }
+    {
+        self.left == 1 && self.tag == of
+    }
 
-// Whether the byte that comes is the number in a field of the tag `of`: the last byte behind that tag.
-#[tactic(auto, using(lib_base::proofs::Pick::branches), unfolding(crate::specs::Scanner::is_number))]
-pub fn is_number(of: u8, tag: u8, left: usize) -> bool
-    ensures { result ≡ is_number of tag left }
-{
-    left == 1 && tag == of
+    // Past one more byte, which is a tag where none stood before it.
+    #[tactic(auto, using(lib_base::proofs::Pick::branches), unfolding(crate::specs::Scanner::left_after, crate::specs::Scanner::tag_after))]
+    pub fn pass(&mut self, b: u8)
+        ensures tag { self.new.tag ≡ tag_after self.old.tag self.old.left b }
+        ensures left { self.new.left ≡ left_after self.old.left b }
+    {
+        if self.left == 0 {
+            self.tag = b;
+            self.left = until_tag(b);
+        } else {
+            self.left -= 1;
+        }
+    }
 }

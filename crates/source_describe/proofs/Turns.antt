@@ -1,7 +1,7 @@
 -- Laws of the loops that write: handlers, the bits of a byte, behaviours, events and parameters. What is left to write
 -- from the place on, after what is written, is all (`Underway`).
 use Rattle.lib_base.proofs.Prelude.{ℕ, ◌≤◌, ◌<◌, ◌+◌, ◌-◌, suc, zero, ◌%◌, ◌/◌, ◌≡◌, refl, ◌∙◌, sym, ap, ◌≢◌, List, []}
-use Rattle.lib_base.proofs.Prelude.{◌∷◌, ◌++◌, length, get_or, drop, length-drop, eqb, ltb, add-one, ne_eqb, le-ltb}
+use Rattle.lib_base.proofs.Prelude.{◌∷◌, ◌++◌, length, get_or, drop, drop_of_length-le, eqb, ltb, add-one, ne_eqb, le-ltb, by_cases, dec_lt}
 use Rattle.lib_base.proofs.Prelude.{lt-ltb, eq-eqb, arith}
 use Rattle.lib_base.specs.Basics.{pick}
 use Rattle.spec_language.specs.Syntax.{later}
@@ -35,9 +35,15 @@ handlers_open : (n : ℕ) (bs : List ℕ) (left : ℕ) (b : List ℕ) → 0 < le
     → handlers_tokens n bs left b ≡ pick (eqb (get_or b 0 0) 5) (handler_tokens n bs b ++ handlers_tokens n bs (left - 1) (after_field b)) []
 handlers_open n bs left b h = let e : left ≡ suc (left - 1) = omega arith in ap (λ (k : ℕ). handlers_tokens n bs k b) e ∙ handlers_turn n bs (left - 1) b
 
-pub handlers_none : (n : ℕ) (bs : List ℕ) (left : ℕ) (b : List ℕ) → left ≤ 0 → handlers_tokens n bs left b ≡ []
+handlers_end : (n : ℕ) (bs : List ℕ) (left : ℕ) → handlers_tokens n bs left [] ≡ []
 unfolding handlers_tokens
-handlers_none n bs left b h = let e : left ≡ 0 = omega arith in rw e
+handlers_end n bs zero = refl
+handlers_end n bs (suc k) = refl
+
+pub handling_ends : {s : List ℕ} {first from : ℕ} {a b : Pen} {at left : ℕ} → Handling s first from a b at left → at ≡ length s
+    → TokensPut a b (handlers_tokens (length s) (drop first s) (length s) (drop from s))
+handling_ends {s} {first} {from} {a} {b} {at} {left} u h =
+    let d : drop at s ≡ [] = drop_of_length-le s (omega arith) in under_end u.underway (rw d (handlers_end (length s) (drop first s) left))
 
 pub handling_on : {s : List ℕ} {first from : ℕ} {a b c : Pen} {at left x y : ℕ} → Handling s first from a b at left → 0 < left
     → x ≡ get_or (drop at s) 0 0 → x ≡ 5 → TokensPut b c (handler_tokens (length s) (drop first s) (drop at s)) → drop y s ≡ after_field (drop at s) → y ≤ length s
@@ -89,9 +95,10 @@ entries_open : (n : ℕ) (bs : List ℕ) (left j : ℕ) (b : List ℕ) → 0 < l
     → entries_tokens n bs left j b ≡ pick (eqb (length b) 0) [] (pick (ltb 63 j) [] (entry_tokens n bs j b ++ entries_tokens n bs (left - 1) (j + cells_in_front b) (after_field b)))
 entries_open n bs left j b h = let e : left ≡ suc (left - 1) = omega arith in ap (λ (k : ℕ). entries_tokens n bs k j b) e ∙ entries_turn n bs (left - 1) j b
 
-pub entries_none : (n : ℕ) (bs : List ℕ) (left j : ℕ) (b : List ℕ) → left ≤ 0 → entries_tokens n bs left j b ≡ []
+entries_end : (n : ℕ) (bs : List ℕ) (left j : ℕ) → entries_tokens n bs left j [] ≡ []
 unfolding entries_tokens
-entries_none n bs left j b h = let e : left ≡ 0 = omega arith in rw e
+entries_end n bs zero j = refl
+entries_end n bs (suc k) j = refl
 
 pub describing_on : {s : List ℕ} {first : ℕ} {a b c : Pen} {at j left x y : ℕ} → Describing s first a b at j left → 0 < left → at ≢ length s
     → j ≤ 63 → TokensPut b c (entry_tokens (length s) (drop first s) j (drop at s)) → x ≡ cells_in_front (drop at s) → x ≤ 255 → drop y s ≡ after_field (drop at s) → y ≤ length s
@@ -103,11 +110,10 @@ describing_on {s} {first} {a} {b} {c} {at} {j} {left} {x} {y} u h n k w e r d l 
   few = omega arith;
 }
 
-pub describing_stops : {s : List ℕ} {first : ℕ} {a b : Pen} {at j left : ℕ} → Describing s first a b at j left → 0 < left → at ≡ length s
+pub describing_ends : {s : List ℕ} {first : ℕ} {a b : Pen} {at j left : ℕ} → Describing s first a b at j left → at ≡ length s
     → TokensPut a b (entries_tokens (length s) (drop first s) (length s) 0 (drop first s))
-describing_stops {s} {first} {a} {b} {at} {j} {left} u h n =
-    let z : length (drop at s) ≡ 0 = simp length-drop (omega arith) in
-    under_end u.underway (entries_open (length s) (drop first s) left j (drop at s) h ∙ rw (eq-eqb (length (drop at s)) 0 z))
+describing_ends {s} {first} {a} {b} {at} {j} {left} u h =
+    let d : drop at s ≡ [] = drop_of_length-le s (omega arith) in under_end u.underway (rw d (entries_end (length s) (drop first s) left j))
 
 pub describing_full : {s : List ℕ} {first : ℕ} {a b : Pen} {at j left : ℕ} → Describing s first a b at j left → 0 < left → at ≢ length s → 63 < j
     → TokensPut a b (entries_tokens (length s) (drop first s) (length s) 0 (drop first s))
@@ -126,9 +132,14 @@ signals_turn : (k i : ℕ) (b : List ℕ) → signals_tokens (suc k) i b ≡ pic
 unfolding signals_tokens
 signals_turn k i b = refl
 
-pub signals_none : (k i : ℕ) (b : List ℕ) → k ≡ 0 → signals_tokens k i b ≡ []
+signals_none : (i : ℕ) (b : List ℕ) → signals_tokens 0 i b ≡ []
 unfolding signals_tokens
-signals_none k i b e = rw e
+signals_none i b = refl
+
+signals_end : (k i : ℕ) → signals_tokens k i [] ≡ []
+unfolding signals_tokens
+signals_end zero i = refl
+signals_end (suc k) i = refl
 
 pub declaring_on : {s : List ℕ} {a b c : Pen} {at i x y : ℕ} → Declaring s a b at i → i < 32 → x ≡ get_or (drop at s) 0 0 → x ≡ 1
     → TokensPut b c (signal_tokens i (drop at s)) → drop y s ≡ after_field (drop at s) → y ≤ length s → Declaring s a c y (i + 1)
@@ -147,6 +158,15 @@ declaring_stops {s} {a} {b} {at} {i} {x} u h e t =
     let z : 32 - i ≡ suc (32 - (i + 1)) = omega arith in
     under_end u.underway
     (ap (λ (k : ℕ). signals_tokens k i (drop at s)) z ∙ (signals_turn (32 - (i + 1)) i (drop at s) ∙ rw (ne_eqb (get_or (drop at s) 0 0) 1 (λ q. t (e ∙ q)))))
+
+pub declaring_ends : {s : List ℕ} {a b : Pen} {at i : ℕ} → Declaring s a b at i → (i < 32 → at ≡ length s) → TokensPut a b (signals_tokens 32 0 s)
+declaring_ends {s} {a} {b} {at} {i} u h = under_end u.underway (by_cases (dec_lt i 32) ended full)
+  where
+    ended : i < 32 → signals_tokens (32 - i) i (drop at s) ≡ []
+    ended l = let d : drop at s ≡ [] = drop_of_length-le s (omega (arith, h l)) in rw d (signals_end (32 - i) i)
+
+    full : (i < 32 → ⊥) → signals_tokens (32 - i) i (drop at s) ≡ []
+    full l = let z : 32 - i ≡ 0 = omega (arith, u.few) in rw z (signals_none i (drop at s))
 
 -- ---- parameters
 

@@ -26,7 +26,7 @@ ghost use Rattle.source_pen.specs.Kinds.{IsSign};
 ghost use Rattle.spec_language.specs.Limits.{event_limit, player_limit};
 
 use sheet_field::{places, sizes, tags};
-use sheet_walk::{after_field, byte_from, cells_at, onward, past_fields, word_from};
+use sheet_walk::{after_field, byte_from, cells_at, field_places, onward, past_fields, word_from};
 use source_coding::{faults, limits as texts, signs};
 use source_pen::Pen;
 use source_pen::Token::{Name, Number, Sign};
@@ -93,13 +93,11 @@ fn put_handlers(s: &[u8], first: usize, heads: &[u8; BYTE], from: usize, pen: &m
     ensures { TokensPut pen.old pen.new
         (handlers_tokens (length s.now) (drop first s.now) (length s.now) (drop from s.now)) }
 {
-    let mut at = from;
-    for _ in 0..s.len() {
+    for at in field_places(s, from) {
         if byte_from(s, at, 0) != tags::HANDLER {
             return;
         }
         write_handler(s, first, heads, at, pen);
-        at = after_field(s, at);
     }
 }
 
@@ -232,18 +230,13 @@ fn put_entries(s: &[u8], first: usize, heads: &[u8; BYTE], pen: &mut Pen)
     ensures { TokensPut pen.old pen.new
         (entries_tokens (length s.now) (drop first s.now) (length s.now) 0 (drop first s.now)) }
 {
-    let mut at = first;
     let mut j = 0usize;
-    for _ in 0..s.len() {
-        if at == s.len() {
-            return;
-        }
+    for at in field_places(s, first) {
         if limits::BEHAVIOURS <= j {
             return;
         }
         put_entry(s, first, heads, at, j, pen);
         j += cells_at(s, at);
-        at = after_field(s, at);
     }
 }
 
@@ -280,13 +273,11 @@ fn put_signals(s: &[u8], pen: &mut Pen)
     requires { pen.old.at ≤ pen_limit }
     ensures { TokensPut pen.old pen.new (signals_tokens event_limit 0 s.now) }
 {
-    let mut at = 0usize;
-    for i in 0..limits::EVENTS {
+    for (i, at) in (0..limits::EVENTS).zip(field_places(s, 0)) {
         if byte_from(s, at, 0) != tags::EVENT {
             return;
         }
         put_signal(s, at, i, pen);
-        at = after_field(s, at);
     }
 }
 

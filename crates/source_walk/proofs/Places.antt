@@ -1,8 +1,8 @@
 -- Laws of the loops that note first cells and count parameters: what is left to do from the place on is what there was
 -- to do at the start.
-use Rattle.lib_base.proofs.Prelude.{ℕ, ◌≤◌, ◌<◌, ◌+◌, ◌-◌, suc, ◌≡◌, refl, ◌∙◌, sym, ap, ◌≢◌, List, length, get_or, drop}
+use Rattle.lib_base.proofs.Prelude.{ℕ, ◌≤◌, ◌<◌, ◌+◌, ◌-◌, zero, suc, ◌≡◌, refl, ◌∙◌, sym, ap, ◌≢◌, List, [], length, get_or, drop}
 use Rattle.lib_base.proofs.Prelude.{length-drop, drop_of_length-le, drop-cons, eqb, ltb, add-one, ne_eqb, le-ltb}
-use Rattle.lib_base.proofs.Prelude.{lt-ltb, eq-eqb, arith}
+use Rattle.lib_base.proofs.Prelude.{lt-ltb, arith}
 use Rattle.lib_base.specs.Basics.{pick}
 use Rattle.sheet_walk.specs.Fields.{after_field, cells_in_front}
 use Rattle.sheet_walk.specs.Scanner.{left_after, tag_after}
@@ -21,9 +21,10 @@ seek_opens : (k j : ℕ) (b : List ℕ) (i : ℕ)
 unfolding first_cell
 seek_opens k j b i = refl
 
-seek_none : (j : ℕ) (b : List ℕ) (i : ℕ) → first_cell 0 j b i ≡ i
+seek_end : (k j i : ℕ) → first_cell k j [] i ≡ i
 unfolding first_cell
-seek_none j b i = refl
+seek_end zero j i = refl
+seek_end (suc k) j i = refl
 
 pub some_left : (s : List ℕ) (at : ℕ) → at ≤ length s → at ≢ length s → length (drop at s) ≢ 0
 some_left s at h n = simp length-drop (omega arith)
@@ -47,32 +48,25 @@ seeking_finds {s} {first} {i} {at} {j} {left} {x} u h n e b =
     ∙ (seek_opens (left - 1) j (drop at s) i ∙ rw (ne_eqb (length (drop at s)) 0 (some_left s at u.inside n), ← e, lt-ltb i (j + x) b)))
     ∙ u.whole
 
-pub seeking_stops : {s : List ℕ} {first i at j left : ℕ} → Seeking s first i at j left → 0 < left → at ≡ length s → i ≡ first_cell (length s) 0 (drop first s) i
-seeking_stops {s} {first} {i} {at} {j} {left} u h n =
-    let z : length (drop at s) ≡ 0 = simp length-drop (omega arith) in
-    sym (ap (λ (k : ℕ). first_cell k j (drop at s) i) (turns left h) ∙ (seek_opens (left - 1) j (drop at s) i ∙ rw (eq-eqb (length (drop at s)) 0 z))) ∙ u.whole
-
-pub seeking_ends : {s : List ℕ} {first i at j left : ℕ} → Seeking s first i at j left → left ≤ 0 → i ≡ first_cell (length s) 0 (drop first s) i
+pub seeking_ends : {s : List ℕ} {first i at j left : ℕ} → Seeking s first i at j left → at ≡ length s → i ≡ first_cell (length s) 0 (drop first s) i
 seeking_ends {s} {first} {i} {at} {j} {left} u h =
-    let z : left ≡ 0 = omega arith in
-    sym (ap (λ (k : ℕ). first_cell k j (drop at s) i) z ∙ seek_none j (drop at s) i) ∙ u.whole
+    let d : drop at s ≡ [] = drop_of_length-le s (omega arith) in
+    sym (rw d (seek_end left j i)) ∙ u.whole
 
 -- ---- parameters
 
-pub record Counting (s : List ℕ) (first at t k n : ℕ) : Type 0 where
-  pub whole : needed_in t k n (drop at s) ≡ needed_in 0 0 0 (drop first s)
-  pub inside : at ≤ length s
+pub record Counting (bs : List ℕ) (at t k n : ℕ) : Type 0 where
+  pub whole : needed_in t k n (drop at bs) ≡ needed_in 0 0 0 bs
   pub few : n ≤ 256
 
-pub counting_on : {s : List ℕ} {first at t k n b m j u : ℕ} → Counting s first at t k n → at < length s → b ≡ get_or s at 0 → m ≡ needed_after t k n b → m ≤ 256
-    → u ≡ tag_after t k b → j ≡ left_after k b → Counting s first (at + 1) u j m
+pub counting_on : {bs : List ℕ} {at t k n b m j u : ℕ} → Counting bs at t k n → at < length bs → b ≡ get_or bs at 0 → m ≡ needed_after t k n b → m ≤ 256
+    → u ≡ tag_after t k b → j ≡ left_after k b → Counting bs (at + 1) u j m
 unfolding needed_in
-counting_on {s} {first} {at} {t} {k} {n} {b} {m} {j} {u} i h e p l v q = record {
-  whole = rw (add-one at, p, q, v, e) (sym (ap (needed_in t k n) (drop-cons s at 0 h)) ∙ i.whole);
-  inside = omega arith;
+counting_on {bs} {at} {t} {k} {n} {b} {m} {j} {u} i h e p l v q = record {
+  whole = rw (add-one at, p, q, v, e) (sym (ap (needed_in t k n) (drop-cons bs at 0 h)) ∙ i.whole);
   few = l;
 }
 
-pub counting_ends : {s : List ℕ} {first at t k n : ℕ} → Counting s first at t k n → length s ≤ at → n ≡ needed_in 0 0 0 (drop first s)
+pub counting_ends : {bs : List ℕ} {at t k n : ℕ} → Counting bs at t k n → length bs ≤ at → n ≡ needed_in 0 0 0 bs
 unfolding needed_in
-counting_ends {s} {first} {at} {t} {k} {n} u h = sym (ap (needed_in t k n) (drop_of_length-le s h)) ∙ u.whole
+counting_ends {bs} {at} {t} {k} {n} u h = sym (ap (needed_in t k n) (drop_of_length-le bs h)) ∙ u.whole

@@ -10,6 +10,8 @@ ghost use Rattle.source_walk.specs.Heads.{OwnFrom, CellsNoted, HeadsOf};
 ghost use Rattle.lib_base.specs.Words.{byte_values, highest_byte};
 
 use sheet_field::tags;
+use sheet_walk::Scanner;
+use std::array;
 
 // How many numbers a byte can be.
 pub const BYTE: usize = sheet_field::sizes::HIGH;
@@ -18,11 +20,7 @@ pub const BYTE: usize = sheet_field::sizes::HIGH;
 fn own_heads() -> [u8; BYTE]
     ensures { OwnFrom result 0 }
 {
-    let mut heads = [0u8; BYTE];
-    for i in 0..BYTE {
-        heads[i] = i as u8;
-    }
-    heads
+    array::from_fn(|i| i as u8)
 }
 
 // Notes j as the first cell of the n behaviours from j on.
@@ -30,9 +28,7 @@ fn note_cells(heads: &mut [u8; BYTE], j: usize, n: usize)
     requires { (j < byte_values) × (n ≤ highest_byte) }
     ensures { CellsNoted heads.old heads.new j n }
 {
-    for i in j..BYTE.min(j + n) {
-        heads[i] = j as u8;
-    }
+    heads[j..BYTE.min(j + n)].fill(j as u8);
 }
 
 // The first cell of each behaviour's field, where the behaviours stand from the place `first` on.
@@ -41,30 +37,25 @@ pub fn heads_from(s: &[u8], first: usize) -> [u8; BYTE]
     ensures { HeadsOf s.now first result }
 {
     let mut heads = own_heads();
-    let mut at = first;
     let mut j = 0usize;
-    for _ in 0..s.len() {
-        if at == s.len() {
-            return heads;
-        }
+    for at in sheet_walk::field_places(s, first) {
         if BYTE <= j {
-            return heads;
+            break;
         }
         let n = sheet_walk::cells_at(s, at);
         note_cells(&mut heads, j, n);
         j += n;
-        at = sheet_walk::after_field(s, at);
     }
     heads
 }
 
 // The parameters needed after a byte, n before it.
-fn needed_after(tag: u8, left: usize, n: usize, b: u8) -> usize
+fn needed_after(scanner: &Scanner, n: usize, b: u8) -> usize
     requires { n ≤ byte_values }
-    ensures value { result ≡ needed_after tag left n b }
+    ensures value { result ≡ needed_after scanner.now.tag scanner.now.left n b }
     ensures upper_bound { result ≤ byte_values }
 {
-    if sheet_walk::is_number(tags::PARAMETER, tag, left) {
+    if scanner.is_number(tags::PARAMETER) {
         return n.max((b as usize) + 1);
     }
     n
@@ -76,13 +67,11 @@ pub fn needed_from(s: &[u8], first: usize) -> usize
     ensures value { result ≡ needed_in 0 0 0 (drop first s.now) }
     ensures upper_bound { result ≤ byte_values }
 {
-    let mut tag = 0u8;
-    let mut left = 0usize;
+    let mut scanner = Scanner::default();
     let mut n = 0usize;
-    for i in first..s.len() {
-        n = needed_after(tag, left, n, s[i]);
-        tag = sheet_walk::tag_after(tag, left, s[i]);
-        left = sheet_walk::left_after(left, s[i]);
+    for &b in &s[first..] {
+        n = needed_after(&scanner, n, b);
+        scanner.pass(b);
     }
     n
 }

@@ -1,18 +1,23 @@
 use Rattle.lib_base.proofs.Prelude.{arith}
-use Rattle.link_bytes.proofs.Laws.{count_start, count_stops, count_on, count_end}
+use Rattle.std.proofs.lemmas.List.{length_push}
+use Rattle.sheet_walk.proofs.Places.{going_on, going_behind, going_within, going_ends}
+use Rattle.link_bytes.proofs.Laws.{count_on, count_end}
 use Rattle.link_bytes.proofs.count.Goals as goal
 
-pub loop-init : goal.loop-init
-loop-init c = count_start _ _ c.requires
-
-pub returns-then-at-s-clause-value : goal.returns-then-at-s-clause-value
-returns-then-at-s-clause-value c = (count_stops c.loop.invariant c.loop-test.true c.if-at-s.true).0
-
-pub loop-preserved : goal.loop-preserved
-loop-preserved c =
+pub loop-at-preserved : goal.loop-at-preserved
+loop-at-preserved c =
+    let u = c.loop-at.invariant in
+    let g = c.in-Some.ensures.steps in
+    let next = going_on u.0 g.0 in
     let cells = c.cells_at-c.ensures in
-    let next = c.after_field-at.ensures in
-    count_on c.loop.invariant c.loop-test.true c.if-at-s.false cells.value cells.upper_bound next.s_value next.upper_bound
+    rw length_push (
+      next,
+      omega (arith, u.1, g.1),
+      count_on (rw g.0.place u.2) (omega (arith, u.1, g.1)) (omega (arith, going_within u.0 g.0)) cells.value cells.upper_bound
+          (going_behind u.0 g.0) next.inside,
+    )
 
 pub returns-clause-value : goal.returns-clause-value
-returns-clause-value c = (count_end c.loop.invariant (omega arith)).0
+returns-clause-value c =
+    let u = c.loop-at.invariant in
+    count_end u.2 (λ h. going_ends u.0 (c.in-None.ensures.steps (omega (arith, u.1, h))))

@@ -1,6 +1,6 @@
--- Up to place `at` the bytes stand in the buffer, their names moved up (`Moving`).
+-- Up to place `to` the bytes stand in the buffer, their names moved up (`Moving`).
 use Rattle.link_bytes.proofs.Laws.{Moving}
 use Rattle.link_bytes.proofs.put_moved.Given as goal
 
-abbrev pub invariant-loop-at : goal.invariant-loop-at
-invariant-loop-at l = Moving l.s l.fn.out l.out l.i l.m l.k l.at l.to l.tag l.left
+abbrev pub invariant-loop-b : goal.invariant-loop-b
+invariant-loop-b l = Moving l.b-items l.fn.out l.out l.m l.k l.b-index l.to l.scanner.tag l.scanner.left

@@ -2,5 +2,5 @@
 use Rattle.source_walk.proofs.Places.{Counting}
 use Rattle.source_walk.proofs.needed_from.Given as goal
 
-abbrev pub invariant-loop-i : goal.invariant-loop-i
-invariant-loop-i l = Counting l.s l.first l.i l.tag l.left l.n
+abbrev pub invariant-loop-b : goal.invariant-loop-b
+invariant-loop-b l = Counting l.b-items l.b-index l.scanner.tag l.scanner.left l.n

@@ -1,12 +1,8 @@
-use Rattle.lib_base.proofs.Prelude.{arith}
-use Rattle.source_walk.proofs.Heads.{owning_start, owning_on, owning_ends}
+-- What the closure gave at each index.
+use Rattle.lib_base.proofs.Prelude.{rules}
 use Rattle.source_walk.proofs.own_heads.Goals as goal
 
-pub loop-i-init : goal.loop-i-init
-loop-i-init c = owning_start
-
-pub loop-i-preserved : goal.loop-i-preserved
-loop-i-preserved c = owning_on c.loop-i.invariant c.loop-i-test.true
-
 pub returns : goal.returns
-returns c = owning_ends c.loop-i.invariant (omega arith)
+returns c =
+    let items = c.from_fn.ensures.items in
+    record { long = items.long; own = λ i z l. let made = (items.at i 0 l).2 in search rules }
