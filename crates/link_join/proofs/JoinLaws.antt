@@ -1,11 +1,11 @@
 -- What compile's 0 says of both sheets: the bytes spliced are those of the sheet pooled from the two that were read.
 -- Each answer from the facts that lead to it.
-use Rattle.lib_base.proofs.Prelude.{ℕ, ◌≤◌, ◌<◌, ◌+◌, ◌-◌, ◌≡◌, ◌∙◌, sym, ap, true, false, Bool, not, List, [], ◌++◌}
-use Rattle.lib_base.proofs.Prelude.{length, take, drop, replicate, length-replicate, ne_eqb, le-ltb}
-use Rattle.lib_base.proofs.Prelude.{eq-eqb, not-true, not-false, arith}
+use Rattle.lib_base.proofs.Prelude.{ℕ, ◌≤◌, ◌<◌, ◌+◌, ◌≡◌, ◌≢◌, ◌∙◌, sym, ap, true, false, Bool, not, List, [], ◌++◌}
+use Rattle.lib_base.proofs.Prelude.{length, length-take, take, drop, replicate, length-replicate, ne_eqb, le-ltb, lt-ltb}
+use Rattle.lib_base.proofs.Prelude.{not-true, not-false, arith}
 use Rattle.lib_base.specs.Basics.{All}
 use Rattle.lib_word.specs.Word.{get}
-use Rattle.spec_language.specs.Refusals.{unlike_ranks}
+use Rattle.spec_language.specs.Refusals.{unlike_ranks, short_join}
 use Rattle.spec_language.specs.Sheet.{Sheet}
 use Rattle.spec_language.specs.Grammar.{encode}
 use Rattle.spec_language.specs.Accepted.{SheetAccepted}
@@ -17,8 +17,8 @@ use Rattle.link_bytes.specs.Splice.{spliced}
 use Rattle.link_bytes.proofs.Spliced.{spliced_are, ranks_agree}
 use Rattle.back_compile.proofs.AcceptedExactly.{accepted_exactly}
 use Rattle.back_compile.specs.Number.{number_on}
-use Rattle.link_join.specs.Join.{delivered_in, result_on, pool_on, pool_read, join_on}
-use Rattle.link_join.specs.Joined.{Joined, joined}
+use Rattle.link_join.specs.Join.{delivered_in, result_on, pool_on, join_on}
+use Rattle.link_join.specs.Joined.{joined}
 
 -- a sheet that compile takes
 pub record AcceptedSheet (s ps : List ℕ) : Type 0 where
@@ -49,45 +49,48 @@ module _ {s t ps : List ℕ} (x : AcceptedSheet s ps) (y : AcceptedSheet t ps) w
       sym (ap (λ (u : List ℕ). agree_from 32 u 0 t 0) x.bytes) ∙ sym (ap (λ (u : List ℕ). agree_from 32 (encode x.sheet) 0 u 0) y.bytes)
       ∙ ranks_agree (get ps) x.sheet y.sheet x.accepted.fits y.accepted.fits x.accepted.known y.accepted.known
 
-  opened : (buffer : List ℕ) → pool_read (read_sheet s) (read_sheet t) ps buffer ≡ pool_on x.sheet y.sheet ps buffer
-  opened buffer = rw (x.read, y.read)
-
-  pub unlike : (buffer : List ℕ) (b : Bool) → b ≡ agree_from 32 s 0 t 0 → not b ≡ true → joined unlike_ranks buffer ≡ pool_read (read_sheet s) (read_sheet t) ps buffer
-  unfolding pool_on
-  unlike buffer b q e = sym (opened buffer ∙ rw (sym ranks_read ∙ sym q ∙ not-true b e))
-
-  pub alike : (buffer : List ℕ) (b : Bool) (o o' : List ℕ) (n : ℕ) (answer : Joined) → b ≡ agree_from 32 s 0 t 0 → not b ≡ false → BytesWritten o 0 (spliced s t) o' n
-      → answer ≡ result_on (take (n - 0) (drop 0 o')) ps buffer → answer ≡ pool_read (read_sheet s) (read_sheet t) ps buffer
-  unfolding pool_on
-  alike buffer b o o' n answer q e w h =
-      let z : n - 0 ≡ n = omega arith in
-      let v : take (n - 0) (drop 0 o') ≡ encode (pooled x.sheet y.sheet) = ap (λ (k : ℕ). take k o') z ∙ w.bytes ∙ spliced_read in
-      h ∙ ap (λ (u : List ℕ). result_on u ps buffer) v ∙ sym (opened buffer ∙ rw (sym ranks_read ∙ sym q ∙ not-false b e))
-
--- ---- the branches
-
-pub copied : (v buffer p : List ℕ) → length v ≤ length buffer → p ≡ v ++ drop (length v) buffer → joined (4294967296 + length v) p ≡ delivered_in v buffer
-unfolding delivered_in
-copied v buffer p h q = rw (le-ltb (length buffer) (length v) h, q)
-
-module _ (v ps buffer : List ℕ) (n : ℕ) (q : n ≡ number_on v ps) where
-  pub not_taken : (n ≡ 0 → ⊥) → joined n buffer ≡ result_on v ps buffer
-  unfolding result_on
-  not_taken h = rw (← q, ne_eqb n 0 h)
-
-  pub is_taken : n ≡ 0 → (answer : Joined) → answer ≡ delivered_in v buffer → answer ≡ result_on v ps buffer
-  unfolding result_on
-  is_taken h answer e = rw (← q, eq-eqb n 0 h) e
-
-module _ (s t ps buffer : List ℕ) (x y : ℕ) (p : x ≡ number_on s ps) where
-  pub first_refused : (x ≡ 0 → ⊥) → joined x buffer ≡ join_on s t ps buffer
+  opened : (buffer : List ℕ) → number_on s ps ≡ 0 → number_on t ps ≡ 0 → join_on s t ps buffer ≡ pool_on x.sheet y.sheet ps buffer
   unfolding join_on
-  first_refused h = rw (← p, ne_eqb x 0 h)
+  opened buffer p q = rw (p, q, x.read, y.read)
 
-  pub second_refused : x ≡ 0 → y ≡ number_on t ps → (y ≡ 0 → ⊥) → joined y buffer ≡ join_on s t ps buffer
-  unfolding join_on
-  second_refused h q g = rw (← p, ← q, eq-eqb x 0 h, ne_eqb y 0 g)
+  module _ (buffer : List ℕ) (p : number_on s ps ≡ 0) (q : number_on t ps ≡ 0) (b : Bool) (e : b ≡ agree_from 32 s 0 t 0) where
+    pub unlike : not b ≡ true → joined unlike_ranks buffer ≡ join_on s t ps buffer
+    unfolding pool_on
+    unlike h = sym (opened buffer p q ∙ rw (sym ranks_read ∙ sym e ∙ not-true b h))
 
-  pub both_taken : x ≡ 0 → y ≡ number_on t ps → y ≡ 0 → (answer : Joined) → answer ≡ pool_read (read_sheet s) (read_sheet t) ps buffer → answer ≡ join_on s t ps buffer
+    module _ {o o' : List ℕ} {n : ℕ} (h : not b ≡ false) (w : BytesWritten o 0 (spliced s t) o' n) where
+      alike : join_on s t ps buffer ≡ result_on (take n o') ps buffer
+      unfolding pool_on
+      alike = opened buffer p q ∙ rw (sym ranks_read ∙ sym e ∙ not-false b h, ← spliced_read, ← w.bytes)
+
+      pub crowded : {k : ℕ} → k ≡ number_on (take n o') ps → k ≢ 0 → joined k buffer ≡ join_on s t ps buffer
+      unfolding result_on
+      crowded {k} d l = sym (alike ∙ rw (← d, ne_eqb k 0 l))
+
+      delivered : number_on (take n o') ps ≡ 0 → join_on s t ps buffer ≡ delivered_in (take n o') buffer
+      unfolding result_on
+      delivered d = alike ∙ rw d
+
+      module _ (r : n ≤ length o') (d : number_on (take n o') ps ≡ 0) where
+        pub no_room : length buffer < n → joined short_join buffer ≡ join_on s t ps buffer
+        unfolding delivered_in
+        no_room l =
+            let z : length (take n o') ≡ n = omega (arith, length-take n o') in
+            sym (delivered d ∙ rw (z, lt-ltb (length buffer) n l))
+
+        pub whole : n ≤ length buffer → {p : List ℕ} → p ≡ take n o' ++ drop n buffer → joined (4294967296 + n) p ≡ join_on s t ps buffer
+        unfolding delivered_in
+        whole l {p} c =
+            let z : length (take n o') ≡ n = omega (arith, length-take n o') in
+            sym (delivered d ∙ rw (z, le-ltb (length buffer) n l, c))
+
+-- ---- a sheet that compile turns down
+
+module _ (s t ps buffer : List ℕ) {k : ℕ} (h : k ≢ 0) where
+  pub first_refused : k ≡ number_on s ps → joined k buffer ≡ join_on s t ps buffer
   unfolding join_on
-  both_taken h q g answer e = rw (← p, ← q, eq-eqb x 0 h, eq-eqb y 0 g) e
+  first_refused p = rw (← p, ne_eqb k 0 h)
+
+  pub second_refused : number_on s ps ≡ 0 → k ≡ number_on t ps → joined k buffer ≡ join_on s t ps buffer
+  unfolding join_on
+  second_refused p q = rw (p, ← q, ne_eqb k 0 h)

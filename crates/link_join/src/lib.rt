@@ -3,11 +3,10 @@
 
 #![tactic(auto)]
 
-ghost use Rattle.std.specs.Prelude.{◌≡◌, ◌≤◌, length};
-ghost use Rattle.spec_language.specs.Reading.{read_sheet};
+ghost use Rattle.std.specs.Prelude.{◌≡◌, ◌≢◌, ◌≤◌, IfOk, MatchResult};
 ghost use Rattle.back_compile.specs.Number.{number_on};
-ghost use Rattle.link_join.specs.Join.{delivered_in, result_on, pool_read, join_on};
-ghost use Rattle.link_join.specs.Joined.{joined};
+ghost use Rattle.link_join.specs.Join.{join_on};
+ghost use Rattle.link_join.specs.Joined.{joined, answer_of};
 ghost use Rattle.link_join.specs.Sizes.{join_room};
 
 use spec_language::{answers, limits};
@@ -16,55 +15,44 @@ use spec_language::{answers, limits};
 const JOINED_BYTES: usize = limits::SHEET_BYTES * 2
     + limits::EVENTS * sheet_field::sizes::PAIR_FIELD;
 
-// The bytes at the start of the buffer, where it has room for them.
-fn put_result(v: &[u8], buffer: &mut [u8]) -> u64
-    requires { length v.now ≤ join_room }
-    ensures { joined result buffer.new ≡ delivered_in v.now buffer.old }
+// Whether compile takes a sheet; else its number.
+fn accept(sheet: &[u8], params: &[u8]) -> Result<(), u64>
+    ensures { MatchResult result (λ _. number_on sheet.now params.now ≡ 0)
+        (λ n. (n ≡ number_on sheet.now params.now) × (n ≢ 0)) }
 {
-    if buffer.len() < v.len() {
-        return answers::SHORT_JOIN;
+    match back_compile::compile_number(sheet, params) {
+        0 => Ok(()),
+        n => Err(n as u64),
     }
-    buffer[..v.len()].copy_from_slice(v);
-    answers::VALUE + (v.len() as u64)
 }
 
-// The joined sheet, where compile takes it.
-fn result_at(v: &[u8], params: &[u8], buffer: &mut [u8]) -> u64
-    requires { length v.now ≤ join_room }
-    ensures { joined result buffer.new ≡ result_on v.now params.now buffer.old }
+// The joined sheet's bytes at the start of the buffer; how many they are, or the number that turns them down.
+fn join(first: &[u8], second: &[u8], params: &[u8], buffer: &mut [u8]) -> Result<usize, u64>
+    ensures answer { joined (answer_of result) buffer.new ≡ join_on first.now second.now params.now buffer.old }
+    ensures upper_bound { IfOk result (λ n. n ≤ join_room) }
 {
-    let n = back_compile::compile_number(v, params);
-    if n != 0 {
-        return n as u64;
-    }
-    put_result(v, buffer)
-}
-
-// Two sheets that compile takes.
-fn pool_at(first: &[u8], second: &[u8], params: &[u8], buffer: &mut [u8]) -> u64
-    requires { (number_on first.now params.now ≡ 0) × (number_on second.now params.now ≡ 0) }
-    ensures { joined result buffer.new
-        ≡ pool_read (read_sheet first.now) (read_sheet second.now) params.now buffer.old }
-{
+    accept(first, params)?;
+    accept(second, params)?;
     if !link_events::ranks_agree(first, second) {
-        return answers::UNLIKE_RANKS;
+        return Err(answers::UNLIKE_RANKS);
     }
     let mut out = [0u8; JOINED_BYTES];
     let n = link_bytes::splice(first, second, &mut out);
-    result_at(&out[0..n], params, buffer)
+    let sheet = &out[..n];
+    accept(sheet, params)?;
+    if buffer.len() < n {
+        return Err(answers::SHORT_JOIN);
+    }
+    buffer[..n].copy_from_slice(sheet);
+    Ok(n)
 }
 
-// The joined sheet's bytes at the start of the buffer: 2 ^ 32 and their number; or compile's number, 26, 27.
+// The same as one number: 2 ^ 32 and how many bytes; or compile's number, 26, 27.
 pub fn join_at(first: &[u8], second: &[u8], params: &[u8], buffer: &mut [u8]) -> u64
     ensures { joined result buffer.new ≡ join_on first.now second.now params.now buffer.old }
 {
-    let x = back_compile::compile_number(first, params);
-    if x != 0 {
-        return x as u64;
+    match join(first, second, params, buffer) {
+        Ok(n) => answers::VALUE + (n as u64),
+        Err(number) => number,
     }
-    let y = back_compile::compile_number(second, params);
-    if y != 0 {
-        return y as u64;
-    }
-    pool_at(first, second, params, buffer)
 }
