@@ -10,7 +10,7 @@ use Rattle.sheet_field.specs.Field.{Field, stated, field_of}
 use Rattle.std.specs.Prelude.{Ok, Err}
 use Rattle.spec_language.specs.declared.refusals.Refusal.{Refusal}
 use Rattle.sheet_field.specs.declared.Header.{Header}
-use Rattle.sheet_walk.specs.Fields.{after_field, past_fields, Ended, WentOn}
+use Rattle.sheet_walk.specs.Fields.{after_field, past_fields, WalkDone, WentOn}
 
 -- what is left of a number of turns
 pub turns : (left : ℕ) → 0 < left → left ≡ suc (left - 1)
@@ -82,7 +82,7 @@ module _ {s t t' : List ℕ} {at x to n : ℕ} (u : Going s t at n) (g : WentOn 
   pub going_left : 0 < length s - n
   going_left = omega (arith, u.passed, going_within, g.place)
 
-pub going_ends : {s t t' : List ℕ} {at to n : ℕ} → Going s t at n → Ended t at t' to → at ≡ length s
+pub going_ends : {s t t' : List ℕ} {at to n : ℕ} → Going s t at n → WalkDone t at t' to → at ≡ length s
 going_ends u g = g.end ∙ ap length u.sheet
 
 -- ---- past the fields of a tag

@@ -23,7 +23,7 @@ cells_in_front b = pick (eqb (get_or b 0 0) 6) (get_or b 3 0) 1
 -- ---- the walk over the fields of s, at the place `at`; it goes on in t, from `to`
 
 -- nothing is left at the end
-pub record Ended (s : List ℕ) (at : ℕ) (t : List ℕ) (to : ℕ) : Type 0 where
+pub record WalkDone (s : List ℕ) (at : ℕ) (t : List ℕ) (to : ℕ) : Type 0 where
   pub end : at ≡ length s
   pub sheet : t ≡ s
   pub stays : to ≡ at
@@ -38,5 +38,5 @@ pub record WentOn (s : List ℕ) (at x : ℕ) (t : List ℕ) (to : ℕ) : Type 0
 
 -- what a turn gives
 abbrev pub FieldGiven : List ℕ → ℕ → Option ℕ → List ℕ → ℕ → Type 0
-FieldGiven s at None t to = Ended s at t to
+FieldGiven s at None t to = WalkDone s at t to
 FieldGiven s at (Some x) t to = WentOn s at x t to

@@ -1,5 +1,5 @@
 -- What `describe` answers, and what it leaves in the lent buffer: docs/SHEETS.md "Back to text".
-use Rattle.std.specs.Prelude.{ℕ, ◌+◌, ◌≤◌, ◌≡◌, List, ◌++◌, length, drop, replicate, ltb, eqb}
+use Rattle.std.specs.Prelude.{ℕ, ◌+◌, ◌≤◌, ◌≡◌, List, ◌++◌, length, drop, replicate, ltb, eqb, Option, Some, None}
 use Rattle.lib_base.specs.Basics.{pick}
 use Rattle.spec_language.specs.Sheet.{Sheet}
 use Rattle.spec_language.specs.Reading.{Got, bad, got, read_sheet}
@@ -17,6 +17,11 @@ abbrev pub text_delivered : List ℕ → List ℕ → ℕ × List ℕ
 text_delivered text buffer =
     pick (ltb (length buffer) (length text)) (answered (fault_number short_buffer_fault) buffer)
     (answered (4294967296 + length text) (text ++ drop (length text) buffer))
+
+-- the same of the text's length, or of none where the buffer is too short
+abbrev pub text_answer : Option ℕ → ℕ
+text_answer (Some n) = 4294967296 + n
+text_answer None = fault_number short_buffer_fault
 
 abbrev pub read_described : Got Sheet → List ℕ → ℕ × List ℕ
 read_described (bad n) buffer = answered n buffer

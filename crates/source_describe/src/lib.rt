@@ -6,7 +6,7 @@
 
 #![tactic(auto)]
 
-ghost use Rattle.std.specs.Prelude.{◌≡◌, [], ◌∷◌, ◌<◌, ◌≤◌, ◌%◌, eqb, length, drop, replicate};
+ghost use Rattle.std.specs.Prelude.{IfSome, ◌≡◌, [], ◌∷◌, ◌<◌, ◌≤◌, ◌%◌, eqb, length, drop, replicate};
 ghost use Rattle.lib_base.specs.Basics.{pick};
 ghost use Rattle.back_compile.specs.Number.{number_on};
 ghost use Rattle.text_formula.specs.Answer.{answered};
@@ -19,7 +19,7 @@ ghost use Rattle.source_terms.specs.Put.{TokensPut};
 ghost use Rattle.source_describe.specs.Walk.{handler_tokens, handlers_tokens, bit_tokens, right_tokens, viewer_tokens, active_tokens};
 ghost use Rattle.source_describe.specs.Walk.{passive_tokens, row_tokens, state_tokens, entry_tokens, entries_tokens, sender_tokens};
 ghost use Rattle.source_describe.specs.Walk.{signal_tokens, signals_tokens, behaviours_in, sheet_tokens};
-ghost use Rattle.source_describe.specs.Describing.{TextPut, describe_on};
+ghost use Rattle.source_describe.specs.Describing.{TextPut, text_answer, describe_on};
 ghost use Rattle.lib_base.specs.Words.{byte_values};
 ghost use Rattle.source_pen.specs.Lengths.{pen_limit};
 ghost use Rattle.source_pen.specs.Kinds.{IsSign};
@@ -311,26 +311,27 @@ fn put_text(s: &[u8], first: usize, n: usize, heads: &[u8; BYTE], out: &mut [u8]
     pen.at
 }
 
-// The text of an accepted sheet at the buffer's start, if there is room for it. It is counted first where the buffer
-// has not room for every text.
-fn put_result(sheet: &[u8], buffer: &mut [u8]) -> u64
+// The text of an accepted sheet at the buffer's start, and its length; none where the buffer has not room for it. It is
+// counted first where the buffer has not room for every text.
+fn put_result(sheet: &[u8], buffer: &mut [u8]) -> Option<usize>
     requires { number_on sheet.now (replicate event_limit 0) ≡ 0 }
-    ensures { answered result buffer.new ≡ describe_on sheet.now buffer.old }
+    ensures answer { answered (text_answer result) buffer.new ≡ describe_on sheet.now buffer.old }
+    ensures bound { IfSome result (λ n. n ≤ pen_limit) }
 {
     let first = past_fields(sheet, 0, tags::EVENT);
     let n = needed_from(sheet, first);
     let heads = heads_from(sheet, first);
     if texts::TEXT_BYTES <= buffer.len() {
         let size = put_text(sheet, first, n, &heads, buffer);
-        return answers::VALUE + (size as u64);
+        return Some(size);
     }
     let mut none = [0u8; 0];
     let size = put_text(sheet, first, n, &heads, &mut none);
     if buffer.len() < size {
-        return faults::SHORT_BUFFER;
+        return None;
     }
     put_text(sheet, first, n, &heads, buffer);
-    answers::VALUE + (size as u64)
+    Some(size)
 }
 
 // The text that describes the sheet at the buffer's start: 2 ^ 32 and its length; or compile's number for the sheet,
@@ -343,5 +344,8 @@ pub fn describe_at(sheet: &[u8], buffer: &mut [u8]) -> u64
     if number != 0 {
         return number as u64;
     }
-    put_result(sheet, buffer)
+    match put_result(sheet, buffer) {
+        Some(size) => answers::VALUE + (size as u64),
+        None => faults::SHORT_BUFFER,
+    }
 }

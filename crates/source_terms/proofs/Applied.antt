@@ -1,7 +1,7 @@
 -- Laws of the tokens of an expression as the code puts them one after the other: none, a leaf, and an application of
 -- one, two or three arguments. By unfolding one turn.
 use Rattle.lib_base.proofs.Prelude.{ℕ, ◌-◌, suc, ◌≡◌, refl, ◌∙◌, sym, ap, ◌≢◌, List, [], ◌++◌, append-nil, get_or, drop}
-use Rattle.lib_base.proofs.Prelude.{◌<◌, ◌≤◌, ◌⊎◌, inl, inr, eqb, leb, ne_eqb, eq-eqb, lt-ltb, arith}
+use Rattle.lib_base.proofs.Prelude.{◌<◌, ◌⊎◌, inl, inr, eqb, leb, ne_eqb, eq-eqb, lt-ltb, arith}
 use Rattle.lib_base.specs.Basics.{pick}
 use Rattle.lib_signature.specs.Signature.{level, last}
 use Rattle.lib_signature.specs.Numbers.{not_fn, if_fn}
@@ -10,9 +10,9 @@ use Rattle.source_rendering.specs.Describe.{mark, unless}
 use Rattle.sheet_walk.specs.Fields.{after_field}
 use Rattle.source_terms.specs.Terms.{head_tokens, between_tokens, first_level, second_level, application_tokens, leaf_tokens, term_tokens}
 
-pub none_between : (f : ℕ) → f ≢ if_fn → ((0 < f) × (last < f)) ⊎ (f ≤ 0) → [] ≡ between_tokens f
-none_between f h (inl k) = rw (ne_eqb f if_fn h, ne_eqb f 0 (omega arith), lt-ltb last f k.1) refl
-none_between f h (inr k) = rw (ne_eqb f if_fn h, eq-eqb f 0 (omega arith)) refl
+pub none_between : (f : ℕ) → f ≢ if_fn → (f ≡ 0) ⊎ (last < f) → [] ≡ between_tokens f
+none_between f h (inl k) = rw (ne_eqb f if_fn h, eq-eqb f 0 k) refl
+none_between f h (inr k) = rw (ne_eqb f if_fn h, ne_eqb f 0 (omega arith), lt-ltb last f k) refl
 
 pub term_none : (n : ℕ) (bs : List ℕ) (room l : ℕ) (b : List ℕ) → room ≡ 0 → [] ≡ term_tokens n bs room l b
 unfolding term_tokens

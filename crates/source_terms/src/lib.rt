@@ -72,16 +72,11 @@ fn write_leaf(s: &[u8], first: usize, heads: &[u8; BYTE], at: usize, pen: &mut P
     requires at_le_pen_limit { pen.old.at ≤ pen_limit }
     ensures { TokensPut pen.old pen.new (leaf_tokens (length s.now) (drop first s.now) (drop at s.now)) }
 {
-    let tag = byte_from(s, at, 0);
-    if tag == tags::CONSTANT {
-        write_value(pen, word_from(s, onward(s, at, sizes::HEADER)));
-        return;
-    }
     let i = byte_from(s, at, sizes::HEADER) as usize;
-    if tag == tags::NAME {
-        put_cell(pen, heads[i] as usize, i);
-    } else {
-        write(pen, Name(PARAMETER, i));
+    match byte_from(s, at, 0) {
+        tags::CONSTANT => write_value(pen, word_from(s, onward(s, at, sizes::HEADER))),
+        tags::NAME => put_cell(pen, heads[i] as usize, i),
+        _ => write(pen, Name(PARAMETER, i)),
     }
 }
 
@@ -135,10 +130,10 @@ fn put_between(pen: &mut Pen, f: u8)
     requires { pen.old.at ≤ pen_limit }
     ensures { TokensPut pen.old pen.new (between_tokens f) }
 {
-    if f == functions::IF {
-        write(pen, Sign(signs::COMMA));
-    } else if 0 < f && f <= functions::LAST {
-        write(pen, Sign(f));
+    match f {
+        functions::IF => write(pen, Sign(signs::COMMA)),
+        1..=functions::LAST => write(pen, Sign(f)),
+        _ => {}
     }
 }
 

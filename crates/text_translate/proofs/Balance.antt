@@ -59,6 +59,9 @@ module _ (ts : List code.Token) (n i : ℕ) (d : code.Token) (h : i < length ts)
       stays Closing o c = absurd (c refl)
       stays Comma o c = refl
 
+-- what the loop's goals need
+pub ruleset brackets = (one_early, one_opens, one_closes, one_other, all_passed)
+
 -- ---- by tokens
 
 opens : ℕ → Token → ℕ

@@ -25,6 +25,7 @@ fn any_large(ts: &[Token]) -> bool
 
 // Whether the brackets match. The reader calls itself for each that is open, so a text where they do not is turned down
 // before: half of its tokens, at most, are opening ones.
+#[tactic(auto, using(crate::proofs::Balance::brackets))]
 fn balanced(ts: &[Token]) -> bool
     requires { length ts.now ≤ formula_bytes }
     ensures { result ≡ balanced_from 1 ts.now }

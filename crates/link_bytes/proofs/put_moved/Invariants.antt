@@ -1,4 +1,4 @@
--- Up to place `to` the bytes stand in the buffer, their names moved up (`Moving`).
+-- The bytes that are passed stand in the buffer, their names moved up (`Moving`).
 use Rattle.link_bytes.proofs.Laws.{Moving}
 use Rattle.link_bytes.proofs.put_moved.Given as goal
 
