@@ -2,7 +2,7 @@
 -- Each answer from the facts that lead to it.
 use Rattle.lib_base.proofs.Prelude.{ℕ, ◌≤◌, ◌<◌, ◌+◌, ◌≡◌, ◌≢◌, ◌∙◌, sym, ap, true, false, Bool, not, List, [], ◌++◌}
 use Rattle.lib_base.proofs.Prelude.{length, length-take, take, drop, replicate, length-replicate, ne_eqb, le-ltb, lt-ltb}
-use Rattle.lib_base.proofs.Prelude.{not-true, not-false, arith}
+use Rattle.lib_base.proofs.Prelude.{eq-eqb, not-true, not-false, arith}
 use Rattle.lib_base.specs.Basics.{All}
 use Rattle.lib_word.specs.Word.{get}
 use Rattle.spec_language.specs.Refusals.{unlike_ranks, short_join}
@@ -86,11 +86,11 @@ module _ {s t ps : List ℕ} (x : AcceptedSheet s ps) (y : AcceptedSheet t ps) w
 
 -- ---- a sheet that compile turns down
 
-module _ (s t ps buffer : List ℕ) {k : ℕ} (h : k ≢ 0) where
-  pub first_refused : k ≡ number_on s ps → joined k buffer ≡ join_on s t ps buffer
+module _ (s t ps buffer : List ℕ) (x y : ℕ) (p : x ≡ number_on s ps) where
+  pub first_refused : (x ≡ 0 → ⊥) → joined x buffer ≡ join_on s t ps buffer
   unfolding join_on
-  first_refused p = rw (← p, ne_eqb k 0 h)
+  first_refused h = rw (← p, ne_eqb x 0 h)
 
-  pub second_refused : number_on s ps ≡ 0 → k ≡ number_on t ps → joined k buffer ≡ join_on s t ps buffer
+  pub second_refused : x ≡ 0 → y ≡ number_on t ps → (y ≡ 0 → ⊥) → joined y buffer ≡ join_on s t ps buffer
   unfolding join_on
-  second_refused p q = rw (p, ← q, ne_eqb k 0 h)
+  second_refused h q g = rw (← p, ← q, eq-eqb x 0 h, ne_eqb y 0 g)

@@ -9,6 +9,6 @@ abbrev pub joined : ℕ → List ℕ → Joined
 joined r l = (r, l)
 
 -- what a joined sheet's length, or the number that turns a join down, is as an answer: 2 ^ 32 is added to the length
-abbrev pub answer_of : Result ℕ ℕ → ℕ
-answer_of (Ok n) = 4294967296 + n
-answer_of (Err n) = n
+abbrev pub join_answer : Result ℕ ℕ → ℕ
+join_answer (Ok n) = 4294967296 + n
+join_answer (Err n) = n

@@ -6,7 +6,7 @@
 ghost use Rattle.std.specs.Prelude.{◌≡◌, ◌≢◌, ◌≤◌, IfOk, MatchResult};
 ghost use Rattle.back_compile.specs.Number.{number_on};
 ghost use Rattle.link_join.specs.Join.{join_on};
-ghost use Rattle.link_join.specs.Joined.{joined, answer_of};
+ghost use Rattle.link_join.specs.Joined.{joined, join_answer};
 ghost use Rattle.link_join.specs.Sizes.{join_room};
 
 use spec_language::{answers, limits};
@@ -27,8 +27,8 @@ fn accept(sheet: &[u8], params: &[u8]) -> Result<(), u64>
 }
 
 // The joined sheet's bytes at the start of the buffer; how many they are, or the number that turns them down.
-fn join(first: &[u8], second: &[u8], params: &[u8], buffer: &mut [u8]) -> Result<usize, u64>
-    ensures answer { joined (answer_of result) buffer.new ≡ join_on first.now second.now params.now buffer.old }
+fn put_joined(first: &[u8], second: &[u8], params: &[u8], buffer: &mut [u8]) -> Result<usize, u64>
+    ensures answer { joined (join_answer result) buffer.new ≡ join_on first.now second.now params.now buffer.old }
     ensures upper_bound { IfOk result (λ n. n ≤ join_room) }
 {
     accept(first, params)?;
@@ -51,7 +51,7 @@ fn join(first: &[u8], second: &[u8], params: &[u8], buffer: &mut [u8]) -> Result
 pub fn join_at(first: &[u8], second: &[u8], params: &[u8], buffer: &mut [u8]) -> u64
     ensures { joined result buffer.new ≡ join_on first.now second.now params.now buffer.old }
 {
-    match join(first, second, params, buffer) {
+    match put_joined(first, second, params, buffer) {
         Ok(n) => answers::VALUE + (n as u64),
         Err(number) => number,
     }

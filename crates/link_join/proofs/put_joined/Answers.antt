@@ -1,19 +1,19 @@
 -- Either sheet's number is not 0; else both are read (`taken`), and the bytes spliced are the pooled sheet's.
-use Rattle.lib_base.proofs.Prelude.{ℕ, List, ◌++◌, drop, ap, not, arith}
+use Rattle.lib_base.proofs.Prelude.{ℕ, refl, List, ◌++◌, drop, ap, not, arith}
 use Rattle.std.proofs.lemmas.Result.{err_from_is_err_and}
 use Rattle.back_compile.proofs.ReadIs.{all_bytes}
 use Rattle.link_join.proofs.JoinLaws.{taken, read_few, first_refused, second_refused, unlike, crowded, no_room, whole}
-use Rattle.link_join.proofs.join.Goals as goal
+use Rattle.link_join.proofs.put_joined.Goals as goal
 
 pub returns-in_err-accept-clause-answer : goal.returns-in_err-accept-clause-answer
 returns-in_err-accept-clause-answer c =
     let p = err_from_is_err_and c.from_residual.result c.from_residual.ensures.1 in
-    rw (p.1, p.2) (first_refused _ _ _ _ c.in_err-accept.ensures.1 c.in_err-accept.ensures.0)
+    rw (p.1, p.2) (first_refused _ _ _ _ _ 0 c.in_err-accept.ensures.0 c.in_err-accept.ensures.1)
 
 pub returns-in_err-accept-2-clause-answer : goal.returns-in_err-accept-2-clause-answer
 returns-in_err-accept-2-clause-answer c =
     let p = err_from_is_err_and c.from_residual-in_err-accept-2.result c.from_residual-in_err-accept-2.ensures.1 in
-    rw (p.1, p.2) (second_refused _ _ _ _ c.in_err-accept-2.ensures.1 c.in_ok-accept.ensures c.in_err-accept-2.ensures.0)
+    rw (p.1, p.2) (second_refused _ _ _ _ _ _ refl c.in_ok-accept.ensures c.in_err-accept-2.ensures.0 c.in_err-accept-2.ensures.1)
 
 pub returns-then-not-ranks_agree-clause-answer : goal.returns-then-not-ranks_agree-clause-answer
 returns-then-not-ranks_agree-clause-answer c =
