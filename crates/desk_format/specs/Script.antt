@@ -1,19 +1,12 @@
 -- What the desk program refuses and prints. 01: "The desk program reads fields from standard input: 20 a sheet, 21
 -- arrival (event byte), 22 steps (two-byte count), 23 show (length 0)."
-use Rattle.std.specs.Prelude.{Result, Ok, Err, ℕ, zero, suc, ◌+◌, ◌-◌, ◌/◌, ◌%◌, Bool, true, false, List, [], ◌∷◌, ◌++◌, ltb, eqb, length, get_or}
+use Rattle.std.specs.Prelude.{ℕ, zero, suc, ◌+◌, ◌-◌, ◌/◌, ◌%◌, Bool, true, false, List, [], ◌∷◌, ◌++◌, ltb, eqb, length, get_or}
 use Rattle.lib_base.specs.Basics.{pick}
 use Rattle.lib_word.specs.Halves.{get_half}
-use Rattle.spec_language.specs.Numbers.{refusal_number}
-use Rattle.spec_language.specs.declared.refusals.Refusal.{Refusal}
 
 -- the length of a 21, 22 or 23
 unfoldable pub due : ℕ → ℕ
 due tag = pick (eqb tag 33) 1 (pick (eqb tag 34) 2 0)
-
--- the number of a refusal; 0 of a field that is taken
-abbrev pub verdict_number : Result (Unit {0}) Refusal → ℕ
-verdict_number (Ok u) = 0
-verdict_number (Err r) = refusal_number r
 
 -- An arrival, a count or a show that is whole: ".. a wrong length R 6 ..; a well-formed 21, 22 or 23 before an accepted
 -- sheet prints R 14"

@@ -5,7 +5,8 @@
 
 ghost use Rattle.std.specs.Prelude.{◌≡◌};
 ghost use Rattle.sheet_field.specs.Header.{header_of, HeaderWithin};
-ghost use Rattle.desk_format.specs.Script.{due, verdict_number, play_verdict, value_verdict, ends_after};
+ghost use Rattle.desk_format.specs.Script.{due, play_verdict, value_verdict, ends_after};
+ghost use Rattle.spec_language.specs.Verdicts.{verdict_number};
 ghost use Rattle.desk_format.specs.Script.{argument_number};
 ghost use Rattle.desk_format.specs.Sizes.{sharp, space};
 

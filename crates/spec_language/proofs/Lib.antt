@@ -4,3 +4,4 @@ pub mod SheetLaws
 pub mod RowNames
 pub mod Examples
 pub mod FaultTable
+pub mod Refused

@@ -13,3 +13,4 @@ pub mod Accepted
 pub mod Valid
 pub mod Limits
 pub mod Numbers
+pub mod Verdicts

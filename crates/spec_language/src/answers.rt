@@ -1,4 +1,7 @@
 // The kinds of a step's answer (specs/Answers.antt has their words), for the code.
+ghost use Rattle.std.specs.Prelude.{◌≡◌};
+ghost use Rattle.spec_language.specs.Verdicts.{told_number};
+
 use crate::refusals::Refusal;
 
 pub const IDLE: u64 = 0;
@@ -47,3 +50,13 @@ pub const TOO_DEEP: u64 = Refusal::TooDeep as u64;
 pub const UNDECLARED_EVENT: u64 = Refusal::UndeclaredEvent as u64;
 
 pub const UNLIKE_RANKS: u64 = Refusal::UnlikeRanks as u64;
+
+// What a call answers that reads a word: 2 ^ 32 and the word, or the refusal's number.
+pub fn answer_of(reading: Result<u32, Refusal>) -> u64
+    ensures { result ≡ told_number reading }
+{
+    match reading {
+        Ok(word) => VALUE + u64::from(word),
+        Err(refusal) => u64::from(refusal.number()),
+    }
+}

@@ -2,6 +2,7 @@
 // specs/Refusals.antt has the papers' words).
 ghost use Rattle.std.specs.Prelude.{◌≡◌};
 ghost use Rattle.spec_language.specs.Numbers.{refusal_number};
+ghost use Rattle.spec_language.specs.Verdicts.{verdict_number};
 
 #[derive(Clone, Copy, PartialEq, Eq, Debug, Drop)]
 pub enum Refusal {
@@ -51,6 +52,16 @@ impl From<Refusal> for u32 {
 
     fn from(r: Refusal) -> u32 {
         r.number()
+    }
+}
+
+// What a call answers that refuses or has nothing to tell: the refusal's number, or 0.
+pub fn verdict_number(verdict: Result<(), Refusal>) -> u32
+    ensures { result ≡ verdict_number verdict }
+{
+    match verdict {
+        Ok(()) => 0,
+        Err(refusal) => refusal.number(),
     }
 }
 
