@@ -2,7 +2,7 @@
 
 #![tactic(auto)]
 
-ghost use Rattle.std.specs.Prelude.{◌≡◌, ◌≤◌, ◌<◌, ◌^◌, length};
+ghost use Rattle.std.specs.Prelude.{◌≡◌, ◌≤◌, ◌<◌, length};
 ghost use Rattle.spec_language.specs.Rights.{may};
 ghost use Rattle.format_layout.specs.Layout.{viewers_at, senders_at};
 ghost use Rattle.format_layout.specs.Sizes.{table_bytes};
@@ -10,24 +10,12 @@ ghost use Rattle.spec_language.specs.Limits.{behaviour_limit, event_limit, playe
 
 use format_layout::table;
 
-// The value of bit n: a power of two.
-fn bit(n: u32) -> u32
-    requires { n < player_limit }
-    ensures value { result ≡ 2 ^ n }
-    ensures result_nonzero { 0 < result }
-{
-    1 << n
-}
-
 // Whether a player is permitted by a word with a bit for each; the host always is.
 fn is_permitted(word: u32, player: u32) -> bool
     requires { player < player_limit }
     ensures { result ≡ may word player }
 {
-    if player == 0 {
-        return true;
-    }
-    word / bit(player) % 2 == 1
+    player == 0 || (word >> player) % 2 == 1
 }
 
 // Whether a player may send an event.

@@ -28,16 +28,11 @@ pub fn is_outranked(table: &[u8], round: &[u8]) -> bool
 
 // Whether it is after a step with that answer: an instruction leaves the hand, a refused step the round; after any
 // other step the best of the hand runs, or nothing does.
+#[tactic(auto, using(lib_base::proofs::Pick::branches), unfolding(crate::specs::Sound::outranked_after))]
 pub fn is_outranked_after(outranked: bool, answer: u64) -> bool
     ensures { result ≡ outranked_after outranked answer }
 {
-    if answer == answers::RAN {
-        return outranked;
-    }
-    if answer == answers::FOREIGN {
-        return outranked;
-    }
-    false
+    outranked && matches!(answer, answers::RAN | answers::FOREIGN)
 }
 
 // Whether the running event, outranked or not, is preempted: outranked and unmasked.
