@@ -3,17 +3,19 @@
 
 #![tactic(auto)]
 
-ghost use Rattle.std.specs.Prelude.{◌≡◌, ◌≤◌};
+ghost use Rattle.std.specs.Prelude.{◌≡◌, ◌+◌, ◌*◌, ◌≤◌};
 ghost use Rattle.format_layout.specs.Layout.{event_count, waiting_count};
 ghost use Rattle.format_layout.specs.Bounds.{TableBounds, Bounds};
-ghost use Rattle.run_forecast.specs.Forecast.{bound, forecast_on};
+ghost use Rattle.run_forecast.specs.Forecast.{forecast_on};
 ghost use Rattle.run_forecast.specs.Steps.{steps_in, longest_in};
-ghost use Rattle.format_layout.specs.Sizes.{queue_limit};
+ghost use Rattle.format_layout.specs.Sizes.{arrival_limit, queue_limit};
 ghost use Rattle.spec_language.specs.Limits.{instruction_limit};
+ghost use Rattle.spec_language.specs.Verdicts.{told_number};
 
 use format_layout::round::Round;
 use format_layout::table;
 use spec_language::answers;
+use spec_language::refusals::Refusal;
 
 // A start and the instructions of each of the first n waiting.
 fn steps_in(table: &[u8], round: &[u8], n: usize) -> u32
@@ -41,29 +43,36 @@ pub fn longest_of(table: &[u8], n: u32) -> u32
     longest
 }
 
-// 01's bound, so many waiting beside the running one: (k + 1) * (L + 1), k being the number in hand, L the longest
-// event's instructions.
-fn bound_of(waiting: u32, longest: u32) -> u32
-    requires { (waiting ≤ queue_limit) × (longest ≤ instruction_limit) }
-    ensures { result ≡ bound waiting longest }
+// 01's bound, so many being in hand: (k + 1) * (L + 1), k being the number in hand, L the longest event's instructions.
+pub fn bound_of(hand: u32, longest: u32) -> u32
+    requires { (hand ≤ queue_limit + 1) × (longest ≤ instruction_limit) }
+    ensures value { result ≡ (hand + 1) * (longest + 1) }
+    ensures upper_bound { result ≤ arrival_limit }
 {
-    let hand = waiting + 1;
     (hand + 1) * (longest + 1)
 }
 
-// The steps to idle if no arrival is taken in meanwhile: 2 ^ 32 and their number, or 14.
-pub fn forecast_at(table: &[u8], round: &[u8]) -> u64
-    ensures { result ≡ forecast_on table.now round.now }
+// The steps to idle if no arrival is taken in meanwhile, or 14.
+#[tactic(auto, using(lib_base::proofs::Pick::branches, crate::proofs::Opened::forecast_opened))]
+fn read_steps(table: &[u8], round: &[u8]) -> Result<u32, Refusal>
+    ensures { told_number result ≡ forecast_on table.now round.now }
 {
     if !run_validate::is_ours(&*table, &*round) {
-        return answers::FOREIGN;
+        return Err(Refusal::Foreign);
     }
     let waiting = lib_word::get_word(round, Round::WAITING);
     // Nothing runs: the sum, over the hand, of each event's instructions plus one.
     if lib_word::get_word(round, Round::RUNNING) == 0 {
-        return answers::VALUE + (steps_in(table, round, waiting as usize) as u64);
+        return Ok(steps_in(table, round, waiting as usize));
     }
-    // Something runs: 01's bound.
+    // Something runs beside those that wait: 01's bound.
     let longest = longest_of(table, lib_word::get_word(table, table::EVENT_COUNT));
-    answers::VALUE + (bound_of(waiting, longest) as u64)
+    Ok(bound_of(waiting + 1, longest))
+}
+
+// The same as a number: 2 ^ 32 and the steps, or 14.
+pub fn forecast_at(table: &[u8], round: &[u8]) -> u64
+    ensures { result ≡ forecast_on table.now round.now }
+{
+    answers::answer_of(read_steps(table, round))
 }
