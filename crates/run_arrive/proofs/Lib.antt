@@ -1,1 +1,3 @@
 pub mod Examples
+pub mod Swap
+pub mod Opened

@@ -1,15 +1,22 @@
 -- What arrive does to the round's bytes, for all bytes (layout: crate format_layout). 01 "Handlers and steps", "Why a
 -- call was turned down": "Arrival: 14, 15, 16, 17."; 02, M-107: 24 after 14, 25 after 15. The answer is 0, or the
 -- refusal's number. A function that branches takes plain numbers; one that reads calls it.
-use Rattle.std.specs.Prelude.{ℕ, ◌+◌, Bool, List, leb, eqb}
+use Rattle.std.specs.Prelude.{Result, Ok, Err, ℕ, ◌+◌, Bool, List, leb, eqb}
 use Rattle.lib_base.specs.Basics.{pick}
 use Rattle.lib_word.specs.Word.{put}
 use Rattle.spec_language.specs.Refusals.{foreign, no_player, undeclared_event, no_right, full_queue, spent}
 use Rattle.spec_language.specs.Rights.{may}
+use Rattle.spec_language.specs.declared.refusals.Refusal.{Refusal}
+use Rattle.spec_language.specs.declared.refusals.Refusal.TheVariants.{NoPlayer, UndeclaredEvent, NoRight}
 use Rattle.format_layout.specs.Layout.{event_count, senders_at, taken, waiting_count, running_flag}
 use Rattle.format_layout.specs.Foreign.{hand_word, ours}
 use Rattle.run_queue.specs.Queue.{put_slot}
 use Rattle.format_layout.specs.Round.{CallResult}
+
+-- `known` events are declared; `senders`: who may send event e. 24, 15 and 25, in this order, or nothing
+unfoldable pub sending : ℕ → ℕ → ℕ → ℕ → Result (Unit {0}) Refusal
+sending known senders e who =
+    pick (leb 8 who) (Err NoPlayer) (pick (leb known e) (Err UndeclaredEvent) (pick (may senders who) (Ok tt) (Err NoRight)))
 
 -- event e of player who joins: n wait, k are taken in
 unfoldable pub admit : List ℕ → ℕ → ℕ → ℕ → ℕ → List ℕ

@@ -32,3 +32,7 @@ any_above t l p (suc n) = pick (ltb p (event_word t (event_at l n) 0)) true (any
 -- arrival n, with the word of its event and player
 unfoldable pub put_slot : List ℕ → ℕ → ℕ → ℕ → List ℕ
 put_slot l i n w = put (put l (8 + i * 2) n) (9 + i * 2) w
+
+-- arrival k joins the n that wait, w being the word of its event and player
+unfoldable pub in_hand_last : List ℕ → ℕ → ℕ → ℕ → List ℕ
+in_hand_last l n k w = put (put_slot l n k w) 1 (n + 1)

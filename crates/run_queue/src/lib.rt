@@ -3,8 +3,8 @@
 #![tactic(auto)]
 
 ghost use Rattle.std.specs.Prelude.{◌≡◌, ◌+◌, ◌*◌, ◌≤◌, ◌<◌, length};
-ghost use Rattle.format_layout.specs.Layout.{event_word, event_at};
-ghost use Rattle.run_queue.specs.Queue.{EventsKnown, ahead, best, any_above, put_slot};
+ghost use Rattle.format_layout.specs.Layout.{event_word, event_at, waiting_count};
+ghost use Rattle.run_queue.specs.Queue.{EventsKnown, ahead, best, any_above, put_slot, in_hand_last};
 ghost use Rattle.format_layout.specs.Sizes.{queue_limit, round_bytes, table_bytes};
 ghost use Rattle.spec_language.specs.Limits.{event_limit};
 
@@ -72,4 +72,15 @@ pub fn put_slot(round: &mut [u8], i: usize, number: u32, word: u32)
 {
     lib_word::put_word(round, Round::NUMBERS + i * 2, number);
     lib_word::put_word(round, Round::WORDS + i * 2, word);
+}
+
+// Arrival `number`, with the word of its event and player, joins the hand, which has room for it.
+#[tactic(auto, unfolding(crate::specs::Queue::in_hand_last))]
+pub fn join_hand(round: &mut [u8], number: u32, word: u32)
+    requires { (round_bytes ≤ length round.old) × (waiting_count round.old < queue_limit) }
+    ensures { round.new ≡ in_hand_last round.old (waiting_count round.old) number word }
+{
+    let waiting = lib_word::get_word(round, Round::WAITING);
+    put_slot(round, waiting as usize, number, word);
+    lib_word::put_word(round, Round::WAITING, waiting + 1);
 }
