@@ -23,7 +23,7 @@ pub struct Stop {
 
 // Whether a step that answers a is not made: idle, or refused.
 #[tactic(auto, using(lib_base::proofs::Pick::branches), unfolding(crate::specs::Burst::unmade))]
-fn is_unmade(a: u64) -> bool
+pub fn is_unmade(a: u64) -> bool
     ensures { result ≡ unmade a }
 {
     a == answers::IDLE || a == answers::FOREIGN

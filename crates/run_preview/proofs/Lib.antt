@@ -1,3 +1,4 @@
 pub mod Arrived
 pub mod ToIdle
 pub mod Examples
+pub mod Opened

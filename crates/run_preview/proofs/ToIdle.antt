@@ -24,9 +24,9 @@ to_idle_burst t (suc k) l =
     (λ u. let q : (step_on t l).1 ≡ l = stays t l u in rw (u, u) (λ i. (a, q i)))
     (λ u. split (is_commit a) (λ c. rw (u, c, u)) (λ c. rw (u, c) (to_idle_burst t k (step_on t l).1)))
 
-unlast : (a : ℕ) → last_step a ≡ false → unmade a ≡ false
+same_step : (a : ℕ) → unmade a ≡ last_step a
 unfolding last_step unmade
-unlast a e = e
+same_step a = refl
 
 pub record Turn (t l₀ : List ℕ) (most : ℕ) (l : List ℕ) (k : ℕ) : Type 0 where
   pub whole : to_idle t k l ≡ to_idle t most l₀
@@ -38,18 +38,18 @@ module _ {t l₀ : List ℕ} {most : ℕ} {l : List ℕ} {k : ℕ} (u : Turn t l
   unfolding to_idle
   spent h = let z : k ≡ 0 = omega arith in rw z at u.whole
 
-  module _ {a k' : ℕ} {l' : List ℕ} {b : Bool} (some : 0 < k) (made : burst a k' l' ≡ burst_on t k l) (tests : b ≡ last_step a) where
+  module _ {a k' : ℕ} {l' : List ℕ} {b : Bool} (some : 0 < k) (made : burst a k' l' ≡ burst_on t k l) (tests : b ≡ unmade a) where
     goes : onward t (a, k', l') ≡ to_idle t most l₀
     goes = ap (onward t) made ∙ sym (to_idle_burst t k l) ∙ u.whole
 
     pub ended : b ≡ true → call_result a l' ≡ to_idle t most l₀
     unfolding onward
-    ended y = rw (← tests, y) at goes
+    ended y = rw (← same_step a, ← tests, y) at goes
 
     pub turn : b ≡ false → RoundSound t l' → length l' ≡ length l → Turn t l₀ most l' k' × (k' < k)
     unfolding onward
     turn y s w =
-        let e : last_step a ≡ false = sym tests ∙ y in (
-          record { whole = rw e at goes; sound = s; as_long = w ∙ u.as_long },
-          left_fewer t l k made some (unlast a e),
+        let e : unmade a ≡ false = sym tests ∙ y in (
+          record { whole = rw (← same_step a, e) at goes; sound = s; as_long = w ∙ u.as_long },
+          left_fewer t l k made some e,
         )
