@@ -3,93 +3,77 @@
 
 #![tactic(auto)]
 
-ghost use Rattle.std.specs.Prelude.{◌≡◌, false, ◌+◌, ◌*◌, ◌≤◌, ◌<◌, length};
+ghost use Rattle.std.specs.Prelude.{◌≡◌, ◌<◌, IfOk};
 ghost use Rattle.format_layout.specs.Bounds.{Bounds};
-ghost use Rattle.format_layout.specs.Layout.{taken, event_count, senders_at, waiting_count, running_flag};
-ghost use Rattle.run_arrive.specs.Arrivals.{queue_full};
+ghost use Rattle.format_layout.specs.Layout.{taken, event_count, senders_at};
 ghost use Rattle.run_step.specs.Sound.{RoundSound};
 ghost use Rattle.run_frame.specs.Frame.{frame_said};
-ghost use Rattle.run_preview.specs.Preview.{in_hand};
-ghost use Rattle.run_deliver.specs.Deliver.{delivery_refusal, admitted, deliver_full, deliver_known, deliver_on, taken_on};
-ghost use Rattle.run_deliver.specs.Delivery.{delivery};
-ghost use Rattle.format_layout.specs.Sizes.{arrival_limit, queue_limit, round_bytes};
-ghost use Rattle.run_frame.specs.Ends.{end_kinds};
+ghost use Rattle.run_deliver.specs.Deliver.{delivery_refusal, deliver_full, deliver_known, deliver_on, taken_on};
+ghost use Rattle.run_deliver.specs.Delivery.{delivery, answer_number};
+ghost use Rattle.run_deliver.specs.Outcomes.{delivery_end};
+ghost use Rattle.format_layout.specs.Sizes.{arrival_limit};
 ghost use Rattle.spec_language.specs.Limits.{event_limit, player_limit};
+ghost use Rattle.spec_language.specs.Verdicts.{verdict_number};
 
 use format_layout::round::Round;
-use format_layout::table;
-use spec_language::{answers, limits, refusals};
+use spec_language::answers;
+use spec_language::refusals::Refusal;
 
 // How a delivery ends that is not refused: taken in; no room for a commit; a step refused by 14.
-const DELIVERED: u64 = 1;
+#[derive(Clone, Copy, PartialEq, Eq, Debug, Drop)]
+pub enum Outcome {
+    Delivered = 1,
+    NoCommitRoom = 2,
+    BrokenOff = 3,
+}
 
-const NO_COMMIT_ROOM: u64 = 2;
-
-const BROKEN_OFF: u64 = 3;
 // The steps made at most: twice the instructions that a table has room for.
 const MOST_STEPS: u32 = 8192;
 // What stands above the number taken in, so that it is no refusal's number; and what each in hand counts.
 const IN_HAND: u64 = 1099511627776;
 // The kinds of a step's answer.
-const KINDS: u64 = spec_language::answers::PLAYER;
+const KINDS: u64 = answers::PLAYER;
 
 const COMMIT_BYTES: usize = run_answers::ANSWER_BYTES;
 
 // The answer of a delivery that is not refused.
-fn delivery_answer(outcome: u64, made: u32, written: u32) -> u64
-    requires { (outcome < end_kinds) × (written < 2) }
-    ensures { result ≡ frame_said outcome made written }
+fn delivery_answer(outcome: Outcome, made: u32, written: u32) -> u64
+    requires { written < 2 }
+    ensures { result ≡ frame_said (delivery_end outcome) made written }
 {
-    outcome * run_frame::COMMITS + (written as u64) * run_frame::STEPS + (made as u64)
+    run_frame::packed_end(outcome as u64, made, written)
 }
 
-// Why a delivery is refused whose table and round are judged: the first of 43, 44, 24, 15, 25 and 17 that fits, or 0.
-fn refusal_of(table: &[u8], round: &[u8], number: u32, event: u32, player: u32) -> u32
+// Why a delivery is refused whose table and round are judged: the first of 43, 44, 24, 15, 25 and 17 that fits.
+#[tactic(auto, using(lib_base::proofs::Pick::branches), unfolding(run_arrive::specs::Arrivals::sending, crate::specs::Deliver::delivery_refusal))]
+fn judge_entry(
+    table: &[u8],
+    round: &[u8],
+    number: u32,
+    event: u32,
+    player: u32,
+) -> Result<(), Refusal>
     requires { Bounds table.now round.now }
-    ensures value { result ≡ delivery_refusal (taken round.now) (event_count table.now)
-        (senders_at table.now event) number event player }
-    ensures player_lt_player_limit { result ≡ 0 → (player < player_limit) × (event < event_limit) × (number < arrival_limit) }
+    ensures value { verdict_number result
+        ≡ delivery_refusal (taken round.now) (event_count table.now) (senders_at table.now event) number event player }
+    ensures in_limits { IfOk result (λ u. (player < player_limit) × (event < event_limit) × (number < arrival_limit)) }
 {
     let before = lib_word::get_word(round, Round::TAKEN);
     if before < number {
-        return refusals::MISSING_ENTRIES;
+        return Err(Refusal::MissingEntries);
     }
     if number < before {
-        return refusals::TAKEN_BEFORE;
+        return Err(Refusal::TakenBefore);
     }
-    if player >= limits::PLAYERS {
-        return refusals::NO_PLAYER;
-    }
-    if lib_word::get_word(table, table::EVENT_COUNT) <= event {
-        return refusals::UNDECLARED_EVENT;
-    }
-    if !run_rights::may_send(table, event, player) {
-        return refusals::NO_RIGHT;
-    }
+    run_arrive::judge_sender(table, event, player)?;
     if number >= Round::ARRIVALS {
-        return refusals::SPENT;
+        return Err(Refusal::Spent);
     }
-    0
-}
-
-// The entry joins the hand, which has room for it.
-fn admit_at(round: &mut [u8], number: u32, event: u32, player: u32)
-    requires { (round_bytes ≤ length round.old) × (waiting_count round.old < queue_limit) × (number < arrival_limit) × (event < event_limit)
-        × (player < player_limit) }
-    ensures { round.new ≡ admitted round.old number event player }
-{
-    let waiting = lib_word::get_word(round, Round::WAITING);
-    run_queue::put_slot(
-        round,
-        waiting as usize,
-        number,
-        player * Round::PLAYER + event,
-    );
-    lib_word::put_word(round, Round::TAKEN, number + 1);
-    lib_word::put_word(round, Round::WAITING, waiting + 1);
+    Ok(())
 }
 
 // Into a full hand: steps until one commits, whose answer is written, and then the entry joins.
+#[tactic(auto, using(crate::proofs::Laws::joining), unfolding(crate::specs::Deliver::deliver_after, crate::specs::Deliver::deliver_full))]
 fn deliver_full(
     table: &[u8],
     round: &mut [u8],
@@ -103,20 +87,21 @@ fn deliver_full(
         ≡ deliver_full table.now round.old number event player commits.old }
 {
     if commits.len() < COMMIT_BYTES {
-        return delivery_answer(NO_COMMIT_ROOM, 0, 0);
+        return delivery_answer(Outcome::NoCommitRoom, 0, 0);
     }
     let stop = run_burst::burst_on(&*table, round, MOST_STEPS);
     let answer = stop.answer;
     let made = MOST_STEPS - stop.left;
-    if answer % KINDS == spec_language::answers::COMMITTED {
-        admit_at(round, number, event, player);
-        run_answers::put_answer(commits, 0, answer);
-        return delivery_answer(DELIVERED, made, 1);
+    if answer % KINDS != answers::COMMITTED {
+        return delivery_answer(Outcome::BrokenOff, made, 0);
     }
-    delivery_answer(BROKEN_OFF, made, 0)
+    run_arrive::admit(round, number, event, player);
+    run_answers::put_answer(commits, 0, answer);
+    delivery_answer(Outcome::Delivered, made, 1)
 }
 
 // None of the refusals fits.
+#[tactic(auto, using(crate::proofs::Laws::joining), unfolding(crate::specs::Deliver::deliver_known))]
 fn deliver_known(
     table: &[u8],
     round: &mut [u8],
@@ -133,12 +118,32 @@ fn deliver_known(
     if run_arrive::is_full(waiting, lib_word::get_word(round, Round::RUNNING)) {
         return deliver_full(&*table, round, number, event, player, commits);
     }
-    admit_at(round, number, event, player);
-    delivery_answer(DELIVERED, 0, 0)
+    run_arrive::admit(round, number, event, player);
+    delivery_answer(Outcome::Delivered, 0, 0)
 }
 
-// Entry `number` of an order: refused by the first of 14, 43, 44, 24, 15, 25 and 17 that fits, and then nothing is
+// Entry `number` of an order, refused by the first of 14, 43, 44, 24, 15, 25 and 17 that fits, and then nothing is
 // changed; else how it ended, the commits written and the steps made.
+#[tactic(auto, using(spec_language::proofs::Refused::refusal_not_0), unfolding(crate::specs::Deliver::deliver_with, crate::specs::Deliver::deliver_on))]
+fn take_entry(
+    table: &[u8],
+    round: &mut [u8],
+    number: u32,
+    event: u32,
+    player: u32,
+    commits: &mut [u8],
+) -> Result<u64, Refusal>
+    ensures { delivery (answer_number result) round.new commits.new
+        ≡ deliver_on table.now round.old number event player commits.old }
+{
+    if !run_validate::is_ours(&*table, round) {
+        return Err(Refusal::Foreign);
+    }
+    judge_entry(&*table, &*round, number, event, player)?;
+    Ok(deliver_known(&*table, round, number, event, player, commits))
+}
+
+// The same as a number: a refusal's, or the answer of one that is not refused.
 pub fn deliver_at(
     table: &[u8],
     round: &mut [u8],
@@ -150,19 +155,16 @@ pub fn deliver_at(
     ensures { delivery result round.new commits.new
         ≡ deliver_on table.now round.old number event player commits.old }
 {
-    if !run_validate::is_ours(&*table, round) {
-        return answers::FOREIGN;
+    match take_entry(table, round, number, event, player, commits) {
+        Ok(answer) => answer,
+        Err(refusal) => u64::from(refusal.number()),
     }
-    let refusal = refusal_of(&*table, round, number, event, player);
-    if refusal != 0 {
-        return refusal as u64;
-    }
-    deliver_known(&*table, round, number, event, player, commits)
 }
 
 // ---- what is taken in
 
 // 2 ^ 32, the number taken in, and 2 ^ 40 for each in hand; or 14.
+#[tactic(auto, using(lib_base::proofs::Pick::branches), unfolding(crate::specs::Deliver::taken_on))]
 pub fn taken_at(table: &[u8], round: &[u8]) -> u64
     ensures { result ≡ taken_on table.now round.now }
 {

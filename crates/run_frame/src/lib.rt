@@ -7,7 +7,7 @@ ghost use Rattle.run_frame.specs.Frame.{frame_said, count_after, commits_after, 
 ghost use Rattle.run_frame.specs.Framed.{room_for, framed};
 ghost use Rattle.run_step.specs.Sound.{RoundSound};
 ghost use Rattle.run_answers.specs.Sizes.{answer_bytes};
-ghost use Rattle.run_frame.specs.Ends.{commit_limit, end_number, most_commits};
+ghost use Rattle.run_frame.specs.Ends.{commit_limit, end_kinds, end_number, most_commits};
 
 use format_layout::round::Round;
 use spec_language::answers;
@@ -22,9 +22,9 @@ pub enum End {
 }
 
 // What stands above the steps made, and above the commits written.
-pub const STEPS: u64 = 4294967296;
+const STEPS: u64 = 4294967296;
 
-pub const COMMITS: u64 = 72057594037927936;
+const COMMITS: u64 = 72057594037927936;
 // The commits that an answer has room to count, and the bytes of each.
 const MOST_COMMITS: usize = 16777215;
 
@@ -32,26 +32,33 @@ const COMMIT_BYTES: usize = run_answers::ANSWER_BYTES;
 // The kinds of a step's answer.
 const KINDS: u64 = spec_language::answers::PLAYER;
 
+// Why a run of steps ended, the steps made and the commits written, in one answer.
+pub fn packed_end(why: u64, made: u32, written: u32) -> u64
+    requires { (why < end_kinds) × (written < commit_limit) }
+    ensures { result ≡ frame_said why made written }
+{
+    why * COMMITS + u64::from(written) * STEPS + u64::from(made)
+}
+
 // The answer of a frame.
 fn frame_answer(why: End, made: u32, written: u32) -> u64
     requires { written < commit_limit }
     ensures { result ≡ frame_said (end_number why) made written }
 {
-    (why as u64) * COMMITS + (written as u64) * STEPS + (made as u64)
+    packed_end(why as u64, made, written)
 }
 
 // How many commits so many bytes have room for.
+#[tactic(auto, using(lib_base::proofs::Pick::branches), unfolding(crate::specs::Framed::room_for))]
 fn room_of(bytes: usize) -> u32
     ensures value { result ≡ room_for bytes }
     ensures upper_bound { (result < commit_limit) × (result * answer_bytes ≤ bytes) }
 {
-    if bytes / COMMIT_BYTES < MOST_COMMITS {
-        return (bytes / COMMIT_BYTES) as u32;
-    }
-    MOST_COMMITS as u32
+    (bytes / COMMIT_BYTES).min(MOST_COMMITS) as u32
 }
 
 // A step's answer after n commits: a commit's is written, any other leaves the buffer. The commits written then.
+#[tactic(auto, using(lib_base::proofs::Pick::branches), unfolding(crate::specs::Frame::count_after, crate::specs::Frame::commits_after))]
 fn note(commits: &mut [u8], n: u32, answer: u64) -> u32
     requires { (n * answer_bytes + answer_bytes ≤ length commits.old) × (n < most_commits) }
     ensures value { result ≡ count_after answer n }
@@ -65,6 +72,7 @@ fn note(commits: &mut [u8], n: u32, answer: u64) -> u32
 }
 
 // Of a foreign table or round no step is made.
+#[tactic(auto, using(lib_base::proofs::Pick::branches), unfolding(crate::specs::Frame::refused_frame))]
 fn refused_of(room: u32) -> u64
     ensures { result ≡ refused_frame room }
 {
@@ -75,14 +83,14 @@ fn refused_of(room: u32) -> u64
 }
 
 // Why a frame ends that would end for `why`: idle where nothing runs and nothing waits.
+#[tactic(auto, using(crate::proofs::Laws::runs_on, crate::proofs::Laws::waits_on, crate::proofs::Laws::rests))]
 fn idle_or(table: &[u8], round: &[u8], why: End) -> End
     requires { RoundSound table.now round.now }
     ensures { end_number result ≡ idle_or table.now round.now (end_number why) }
 {
-    if lib_word::get_word(round, Round::RUNNING) != 0 {
-        return why;
-    }
-    if lib_word::get_word(round, Round::WAITING) != 0 {
+    if lib_word::get_word(round, Round::RUNNING) != 0
+        || lib_word::get_word(round, Round::WAITING) != 0
+    {
         return why;
     }
     End::Idle
