@@ -1,4 +1,5 @@
 pub mod Joined
+pub mod Told
 pub mod Join
 pub mod Statements
 pub mod Sizes

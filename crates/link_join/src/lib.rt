@@ -6,7 +6,8 @@
 ghost use Rattle.std.specs.Prelude.{◌≡◌, ◌≢◌, ◌≤◌, IfOk, MatchResult};
 ghost use Rattle.back_compile.specs.Number.{number_on};
 ghost use Rattle.link_join.specs.Join.{join_on};
-ghost use Rattle.link_join.specs.Joined.{joined, join_answer};
+ghost use Rattle.link_join.specs.Joined.{joined};
+ghost use Rattle.link_join.specs.Told.{join_answer};
 ghost use Rattle.link_join.specs.Sizes.{join_room};
 
 use spec_language::{answers, limits};

@@ -1,8 +1,6 @@
 -- What a delivery answers, and what `taken` does.
-use Rattle.std.specs.Prelude.{Result, Ok, Err, ℕ, ◌+◌, ◌*◌, List}
+use Rattle.std.specs.Prelude.{ℕ, ◌+◌, ◌*◌, List}
 use Rattle.spec_language.specs.Answers.{told}
-use Rattle.spec_language.specs.Numbers.{refusal_number}
-use Rattle.spec_language.specs.declared.refusals.Refusal.{Refusal}
 
 -- taken in; the hand is full and there is no room for a commit: no step made; a step on the way was refused by 14
 abbrev pub delivered_now : ℕ
@@ -20,11 +18,6 @@ Delivery = ℕ × List ℕ × List ℕ
 
 abbrev pub delivery : ℕ → List ℕ → List ℕ → Delivery
 delivery r l b = (r, l, b)
-
--- what is answered: a refusal's number, or the answer of one that is not refused
-abbrev pub answer_number : Result ℕ Refusal → ℕ
-answer_number (Ok a) = a
-answer_number (Err r) = refusal_number r
 
 abbrev pub hand_unit : ℕ
 hand_unit = 1099511627776

@@ -1,3 +1,4 @@
 pub mod Delivery
+pub mod Told
 pub mod Deliver
 pub mod Outcomes

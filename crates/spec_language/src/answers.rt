@@ -37,10 +37,6 @@ pub const NO_FORMULA: u64 = Refusal::NoFormula as u64;
 
 pub const NO_PLAYER: u64 = Refusal::NoPlayer as u64;
 
-pub const NO_RIGHT: u64 = Refusal::NoRight as u64;
-
-pub const SETTLING: u64 = Refusal::Settling as u64;
-
 pub const SHORT_FIELD: u64 = Refusal::ShortField as u64;
 
 pub const SHORT_JOIN: u64 = Refusal::ShortJoin as u64;

@@ -65,39 +65,5 @@ pub fn verdict_number(verdict: Result<(), Refusal>) -> u32
     }
 }
 
-// The numbers alone, for the calls that answer words.
-pub const SHORT_TABLE: u32 = Refusal::ShortTable as u32;
-
-pub const LONG_SHEET: u32 = Refusal::LongSheet as u32;
-
-pub const TORN: u32 = Refusal::Torn as u32;
-
-pub const WRONG_LENGTH: u32 = Refusal::WrongLength as u32;
-
-pub const UNKNOWN_NAME: u32 = Refusal::UnknownName as u32;
-
-pub const CYCLE: u32 = Refusal::Cycle as u32;
-
-pub const OVERLONG: u32 = Refusal::Overlong as u32;
-
+// The number alone, where a word is told apart by it.
 pub const FOREIGN: u32 = Refusal::Foreign as u32;
-
-pub const UNDECLARED_EVENT: u32 = Refusal::UndeclaredEvent as u32;
-
-pub const FULL_QUEUE: u32 = Refusal::FullQueue as u32;
-
-pub const SPENT: u32 = Refusal::Spent as u32;
-
-pub const SETTLING: u32 = Refusal::Settling as u32;
-
-pub const NO_PARAMETERS: u32 = Refusal::NoParameters as u32;
-
-pub const NO_PLAYER: u32 = Refusal::NoPlayer as u32;
-
-pub const NO_RIGHT: u32 = Refusal::NoRight as u32;
-
-pub const UNDECLARED_IN_HAND: u32 = Refusal::UndeclaredInHand as u32;
-
-pub const MISSING_ENTRIES: u32 = Refusal::MissingEntries as u32;
-
-pub const TAKEN_BEFORE: u32 = Refusal::TakenBefore as u32;
