@@ -71,7 +71,7 @@ def changed(pattern, into, nth=1):
 
 HARM = [
     ("a constant operand", changed(r"( = add [^%\n]*%\S+, )1$", r"\g<1>2")),
-    ("a later constant operand", changed(r"( = icmp [^%\n]*%\S+, )\d+$", r"\g<1>77", 300)),
+    ("a later constant operand", changed(r"( = icmp [^%\n]*%\S+, )\d+$", r"\g<1>77", 100)),
     ("an operand that is a value", changed(r"( = (?:add|sub|or|and|xor) [^%\n]*)%\S+, (%\S+)$", r"\1\2, \2", 20)),
     ("a predicate", changed(r" = icmp ult ", " = icmp ule ", 100)),
     ("an operation", changed(r" = sub ", " = add ", 10)),
