@@ -19,10 +19,10 @@ use Rattle.check_reads.proofs.Agrees.{names_are, writes_are, chains_are, closed_
 use Rattle.ask_leak.specs.Leaking.{names_any}
 use Rattle.ask_leak.specs.Leak.{behaviour_names}
 use Rattle.ask_leak.proofs.LeakLaws.{any_are}
-use Rattle.ask_meets.specs.Marks.{mark_of, adds_by, adds_of}
+use Rattle.ask_meets.specs.Marks.{mark_of, adds_by, adds_of, marks_packed}
 use Rattle.ask_meets.specs.Meeting.{in_cone, refers_at, strict_at, strict_in}
 use Rattle.ask_meets.specs.Strict.{cone_on, mark_in, adds_on, refers_on, strict_at_on, strict_on}
-use Rattle.ask_meets.proofs.NodeMarks.{over_nodes, expr_mark}
+use Rattle.ask_meets.proofs.NodeMarks.{over_nodes, expr_mark, alone_is}
 
 module _ (p : Program) (d : List ℕ) (nodes_of : ℕ) (f : Fits p) (dr : Drafted p d nodes_of) (known : Known p) where
   -- ---- the cone
@@ -46,9 +46,8 @@ module _ (p : Program) (d : List ℕ) (nodes_of : ℕ) (f : Fits p) (dr : Drafte
     unfolding mark_in
     held i v kind x b e h m =
         let c : take (entry_count v) (drop (entry_start v) (used_by d i)) ≡ nodes x = rw e.count_is e.there in
-        let top = λ (s : List ℕ). get_or s 0 0 in
-        ap top (over_nodes (λ k. bit (get_or rows k 0) i) i (used_by d i) (entry_start v) (entry_count v) (omega (arith, e.inside, long i)))
-        ∙ rw c (ap top (expr_mark p (size p) (λ k. bit (get_or rows k 0) i) i (λ j a. leads_are j i a b) x h m))
+        ap marks_packed (over_nodes (λ k. bit (get_or rows k 0) i) i (used_by d i) (entry_start v) (entry_count v) (omega (arith, e.inside, long i)))
+        ∙ rw c (ap marks_packed (expr_mark p (size p) (λ k. bit (get_or rows k 0) i) i (λ j a. leads_are j i a b) x h m) ∙ alone_is (mark_of p i x))
 
     entry_adds : (i v : ℕ) (r : Response) → i < size p → Entry (used_by d i) v r → ResponseNested r → ResponseNamesIn (size p) r → written r ≡ true
         → eqb (mark_in d rows i v) 3 ≡ adds_by p i r

@@ -6,3 +6,5 @@ pub mod Leading
 pub mod MarkDecides
 pub mod MeetDecides
 pub mod Reading
+pub mod MarkNumber
+pub mod Examples

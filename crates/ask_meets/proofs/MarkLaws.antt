@@ -1,21 +1,24 @@
 -- The code's branches on marks and sets, over plain variables.
-use Rattle.lib_base.proofs.Prelude.{ℕ, ◌≤◌, ◌<◌, ◌+◌, add-one, suc, zero, ◌*◌, ◌%◌, ◌/◌, ◌^◌, ◌≡◌, refl, ◌∙◌, sym, ap, true, false}
+use Rattle.lib_base.proofs.Prelude.{ℕ, ◌≤◌, ◌<◌, ◌+◌, ◌-◌, add-one, suc, zero, ◌*◌, ◌%◌, ◌/◌, ◌^◌, ◌≡◌, refl, ◌∙◌, sym, ap, true, false}
 use Rattle.lib_base.proofs.Prelude.{Bool, ◌||◌, true≢false, ◌&&◌, not, or-false, or-true, and-false, and-true}
 use Rattle.lib_base.proofs.Prelude.{List, length, get_or, List·getD-eq-default, eqb, ne_eqb, eqb-true, eq-eqb, eqb-false}
-use Rattle.lib_base.proofs.Prelude.{set, get_or-set_other, get_or-set_same, ltb, lt-ltb, arith}
+use Rattle.lib_base.proofs.Prelude.{take, take_all, set, get_or-set_other, get_or-set_same, by_cases, dec_lt, arith}
 use native.Mathlib.Nat.{mod-lt, zero-lt-suc}
 use lib.Bits.{bit_xor, xor_shr, xor_mod}
 use lib.Pow.{shl_exact}
+use Rattle.std.proofs.lemmas.List.{get_or_default}
 use Rattle.lib_base.specs.Basics.{pick}
 use Rattle.lib_base.proofs.Tools.{split, by_test}
 use Rattle.lib_bits.specs.Bits.{bit}
 use Rattle.draft_form.specs.Draft.{moved, used_by}
 use Rattle.draft_form.proofs.DraftLaws.{used_at}
 use Rattle.lib_bits.proofs.BitLaws.{bit_none, bit_one}
-use Rattle.ask_meets.specs.Marks.{name_mark, push_mark, mark_step, marks_among}
+use Rattle.ask_meets.specs.Marks.{name_mark, push_mark, mark_step, marks_among, marks_packed}
 use Rattle.ask_meets.specs.Marking.{mark_number, standing}
+use denote.Enum.Bare.{sameb}
+use Rattle.ask_meets.specs.contracts.Mark.{the_type}
 use Rattle.ask_meets.specs.declared.Mark.{Mark}
-use Rattle.ask_meets.specs.declared.Mark.TheVariants.{Apart}
+use Rattle.ask_meets.specs.declared.Mark.TheVariants.{Apart, Names, Adds}
 
 -- ---- names
 
@@ -41,8 +44,96 @@ pub put_on : (marks : List Mark) (mark : Mark) (k : ℕ) → k < length marks �
     → standing (set marks k mark) (k + 1) ≡ push_mark (standing marks k) (mark_number mark)
 unfolding standing push_mark
 put_on marks mark k h b =
-    let room : ltb (length (standing marks k)) 32 ≡ true = lt-ltb (length (standing marks k)) 32 (omega (arith, standing_length marks k)) in
-    rw (add-one k, room, get_or-set_same marks k mark Apart h, standing_under marks mark k k (omega arith))
+    let few : length (standing marks k) ≤ 31 = omega (arith, standing_length marks k) in
+    rw (add-one k, get_or-set_same marks k mark Apart h, standing_under marks mark k k (omega arith), take_all 31 (standing marks k) few)
+
+-- of marks that moved down by one the lowest is gone
+moved_down : (marks after : List Mark) (k : ℕ) → ((j : ℕ) → j < k → get_or after j Apart ≡ get_or marks (suc j) Apart)
+    → standing after k ≡ take k (standing marks (suc k))
+unfolding standing
+moved_down marks after zero h = refl
+moved_down marks after (suc k) h = rw (h k (omega arith), moved_down marks after k (λ j l. h j (omega arith)))
+
+pub put_full : (marks after : List Mark) (mark : Mark) (n : ℕ) → 31 < length after → 31 ≤ n
+    → ((k : ℕ) (d : Mark) → 0 ≤ k → k < 0 + n → get_or after k d ≡ get_or marks (1 + (k - 0)) d)
+    → standing (set after 31 mark) 32 ≡ push_mark (standing marks 32) (mark_number mark)
+unfolding standing push_mark
+put_full marks after mark n l r h =
+    let moved : (j : ℕ) → j < 31 → get_or after j Apart ≡ get_or marks (suc j) Apart =
+    λ j b. let e : 1 + (j - 0) ≡ suc j = omega arith in h j Apart (omega arith) (omega arith) ∙ ap (λ (i : ℕ). get_or marks i Apart) e in
+    rw (get_or-set_same after 31 mark Apart l, standing_under after mark 31 31 (omega arith), moved_down marks after 31 moved)
+
+-- ---- the stack as a number
+
+-- it grows with the marks
+number_grows : (marks : List Mark) (j k : ℕ) → j ≤ k → marks_packed (standing marks j) ≤ marks_packed (standing marks k)
+unfolding standing marks_packed
+number_grows marks j zero h = let e : j ≡ 0 = omega arith in rw e (omega arith)
+number_grows marks j (suc k) h =
+    by_cases (dec_lt k j)
+    (λ l. let e : j ≡ suc k = omega arith in rw e (omega arith))
+    (λ l. let g = number_grows marks j k (omega arith) in omega arith)
+
+most : (m : Mark) → mark_number m ≤ 3
+most Apart = omega arith
+most Names = omega arith
+most Adds = omega arith
+
+same_number : (m n : Mark) → sameb the_type m n ≡ eqb (mark_number m) (mark_number n)
+same_number Apart Apart = refl
+same_number Apart Names = refl
+same_number Apart Adds = refl
+same_number Names Apart = refl
+same_number Names Names = refl
+same_number Names Adds = refl
+same_number Adds Apart = refl
+same_number Adds Names = refl
+same_number Adds Adds = refl
+
+-- an empty stack is that of what does not name the behaviour
+pub none_is : (marks : List Mark) (k : ℕ) (m : Mark) → k ≡ 0 → sameb the_type m Apart ≡ eqb (marks_packed (standing marks k)) (mark_number m)
+unfolding standing marks_packed
+none_is marks k Apart e = rw e
+none_is marks k Names e = rw e
+none_is marks k Adds e = rw e
+
+-- a mark on those that do not name it
+apart_number : (x : Mark) → not (sameb the_type x Apart) ≡ false → mark_number x ≡ 0
+apart_number Apart t = refl
+apart_number Names t = absurd (true≢false t)
+apart_number Adds t = absurd (true≢false t)
+
+naming_number : (x : Mark) → not (sameb the_type x Apart) ≡ true → 0 < mark_number x
+naming_number Apart t = absurd (true≢false (sym t))
+naming_number Names t = omega arith
+naming_number Adds t = omega arith
+
+one_more : (marks : List Mark) (k : ℕ) → marks_packed (standing marks (suc k)) ≡ marks_packed (standing marks k) * 4 + mark_number (get_or marks k Apart)
+unfolding standing marks_packed
+one_more marks k = refl
+
+-- what is read at a place of the array, whatever stands for a place past its end
+read : (marks : List Mark) (k : ℕ) (x D : Mark) → k < length marks → x ≡ get_or marks k D → mark_number (get_or marks k Apart) ≡ mark_number x
+read marks k x D l e = ap mark_number (get_or_default marks k Apart D l ∙ sym e)
+
+pub still_none : (marks : List Mark) (k : ℕ) (x D : Mark) → marks_packed (standing marks k) ≡ 0 → k < length marks → x ≡ get_or marks k D
+    → not (sameb the_type x Apart) ≡ false → marks_packed (standing marks (k + 1)) ≡ 0
+still_none marks k x D h l e t = rw (add-one k) (omega (arith, one_more marks k, h, read marks k x D l e, apart_number x t))
+
+-- one below the topmost that names it makes the number more than a mark's
+pub some_below : (marks : List Mark) (j top k : ℕ) (x m D : Mark) → k ≡ suc top → j < top → j < length marks → x ≡ get_or marks j D
+    → not (sameb the_type x Apart) ≡ true → false ≡ eqb (marks_packed (standing marks k)) (mark_number m)
+some_below marks j top k x m D q h l e t =
+    let g : marks_packed (standing marks (suc j)) ≤ marks_packed (standing marks top) = number_grows marks (suc j) top (omega arith) in
+    let large : 3 < marks_packed (standing marks (suc top)) = omega (arith, one_more marks j, one_more marks top, read marks j x D l e, g, naming_number x t) in
+    rw q (sym (ne_eqb (marks_packed (standing marks (suc top))) (mark_number m) (λ p. omega (arith, most m, large, p))))
+
+-- with none below it the number is that of the topmost
+pub top_is_all : (marks : List Mark) (j top k : ℕ) (x m D : Mark) → k ≡ suc top → marks_packed (standing marks j) ≡ 0 → top ≤ j → top < length marks
+    → x ≡ get_or marks top D → sameb the_type x m ≡ eqb (marks_packed (standing marks k)) (mark_number m)
+top_is_all marks j top k x m D q h r l e =
+    let v : marks_packed (standing marks (suc top)) ≡ mark_number x = omega (arith, one_more marks top, number_grows marks top j r, h, read marks top x D l e) in
+    rw (q, v) (same_number x m)
 
 -- ---- nodes
 

@@ -2,7 +2,7 @@
 -- stack is its mark, as long as the stack has room for its depth. By induction on the expression.
 use Rattle.lib_base.proofs.Prelude.{ℕ, ◌≤◌, ◌<◌, ◌+◌, suc, zero, ◌*◌, ◌^◌, ◌≡◌, refl, ◌∙◌, ap, true, Bool}
 use Rattle.lib_base.proofs.Prelude.{List, [], ◌∷◌, ◌++◌, length, get_or, take, drop, length-drop, get_or-drop, take-suc}
-use Rattle.lib_base.proofs.Prelude.{ne_eqb, ltb, lt-ltb, arith}
+use Rattle.lib_base.proofs.Prelude.{take_all, ne_eqb, arith}
 use Rattle.lib_signature.specs.Numbers.{not_fn, if_fn}
 use Rattle.lib_signature.specs.Signature.{last}
 use Rattle.lib_signature.proofs.Laws.{two_is}
@@ -13,7 +13,7 @@ use Rattle.spec_language.specs.Accepted.{NamesIn}
 use Rattle.draft_form.specs.Draft.{nodes}
 use Rattle.draft_form.specs.Entry.{node_tag, node_word}
 use Rattle.check_reads.specs.Named.{through_passives}
-use Rattle.ask_meets.specs.Marks.{name_mark, one_mark, two_mark, if_mark, mark_of, push_mark, applied_mark, mark_step, marks_among}
+use Rattle.ask_meets.specs.Marks.{name_mark, one_mark, two_mark, if_mark, mark_of, push_mark, applied_mark, mark_step, marks_among, marks_packed}
 
 -- ---- a list of nodes
 
@@ -38,7 +38,7 @@ over_nodes leads b d start (suc k) h =
 -- with room a mark is put on the stack
 pushes : (s : List ℕ) (m : ℕ) → length s < 32 → push_mark s m ≡ m ∷ s
 unfolding push_mark
-pushes s m h = let q : ltb (length s) 32 ≡ true = lt-ltb (length s) 32 h in rw q
+pushes s m h = ap (λ (l : List ℕ). m ∷ l) (take_all 31 s (omega arith))
 
 -- ---- a node
 
@@ -110,3 +110,8 @@ module _ (p : Program) (n : ℕ) (leads : ℕ → Bool) (b : ℕ) (same : (j : �
   -- from an empty stack
   pub expr_mark : (x : Expr) → Nested 16 x → NamesIn n x → marks_over leads b [] (nodes x) ≡ mark_of p b x ∷ []
   expr_mark x h m = over_expr h m [] (omega arith)
+
+-- one mark alone is its number
+pub alone_is : (m : ℕ) → marks_packed (m ∷ []) ≡ m
+unfolding marks_packed
+alone_is m = omega arith

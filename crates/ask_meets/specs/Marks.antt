@@ -1,7 +1,7 @@
 -- How an expression stands to a behaviour b, as a number: 0 it does not name b, 2 it names b, 3 it adds to b; "name"
 -- directly or through passives. Worked out from its parts: of an expression, and of its nodes in the draft, on a stack
 -- of marks, the topmost first. (What it decides: crate ask_commute, Meets.antt, `Refers` and `Adds`.)
-use Rattle.std.specs.Prelude.{ℕ, zero, suc, ◌+◌, Bool, false, List, [], ◌∷◌, length, get_or, drop, eqb, ltb}
+use Rattle.std.specs.Prelude.{ℕ, zero, suc, ◌+◌, ◌*◌, Bool, false, List, [], ◌∷◌, get_or, take, drop, eqb}
 use Rattle.lib_base.specs.Basics.{pick}
 use Rattle.lib_signature.specs.Numbers.{not_fn, if_fn, add_fn, subtract_fn}
 use Rattle.spec_language.specs.Syntax.{Expr, con, name, app1, app2, app3, Program}
@@ -52,9 +52,9 @@ adds_of p e b = adds_by p b (response p e b)
 
 -- ---- of nodes
 
--- a mark on the stack, which holds 32; a full one stays as it is
+-- a mark on the stack, which holds 32; what is below them is dropped
 unfoldable pub push_mark : List ℕ → ℕ → List ℕ
-push_mark s m = pick (ltb (length s) 32) (m ∷ s) s
+push_mark s m = m ∷ take 31 s
 
 -- a function takes its arguments' marks from the stack; where there is none, 0
 unfoldable pub applied_mark : ℕ → List ℕ → List ℕ
@@ -72,3 +72,8 @@ mark_step leads b s x =
 unfoldable pub marks_among : (ℕ → Bool) → ℕ → List ℕ → ℕ → ℕ → List ℕ
 marks_among leads b d start zero = []
 marks_among leads b d start (suc k) = mark_step leads b (marks_among leads b d start k) (get_or d (start + k) 0)
+
+-- the stack as one number, a mark in two bits, the topmost lowest
+unfoldable pub marks_packed : List ℕ → ℕ
+marks_packed [] = 0
+marks_packed (m ∷ s) = marks_packed s * 4 + m

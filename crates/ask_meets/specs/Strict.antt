@@ -8,15 +8,15 @@ use Rattle.draft_form.specs.Entry.{entry_start, entry_count}
 use Rattle.check_graph.specs.Any.{any_below}
 use Rattle.check_reads.specs.Sets.{names_on, writes_on, closed_by}
 use Rattle.ask_leak.specs.Leaking.{names_any}
-use Rattle.ask_meets.specs.Marks.{marks_among}
+use Rattle.ask_meets.specs.Marks.{marks_among, marks_packed}
 
 -- what a chain of names leads to from b, and b
 unfoldable pub cone_on : List ℕ → ℕ → ℕ → ℕ → ℕ → Bool
 cone_on d ev n b j = closed_by n (names_any d ev) b j || eqb j b
 
--- the mark of the expression of entry v of behaviour i, toward i: what its nodes leave on top
+-- the mark of the expression of entry v of behaviour i, toward i: all that its nodes leave, as one number
 unfoldable pub mark_in : List ℕ → List ℕ → ℕ → ℕ → ℕ
-mark_in d rows i v = get_or (marks_among (λ k. bit (get_or rows k 0) i) i (used_by d i) (entry_start v) (entry_count v)) 0 0
+mark_in d rows i v = marks_packed (marks_among (λ k. bit (get_or rows k 0) i) i (used_by d i) (entry_start v) (entry_count v))
 
 -- what the draft has for i on event e adds to i
 unfoldable pub adds_on : List ℕ → List ℕ → ℕ → ℕ → Bool

@@ -13,6 +13,7 @@ ghost use Rattle.check_faults.specs.Checks.{RowsInside, AllInside};
 ghost use Rattle.check_reads.specs.Sets.{RowsBy};
 ghost use Rattle.ask_leak.specs.Leaking.{names_any};
 ghost use Rattle.ask_meets.specs.Marks.{name_mark, one_mark, two_mark, if_mark, push_mark, applied_mark, mark_step};
+ghost use Rattle.ask_meets.specs.Marks.{marks_packed};
 ghost use Rattle.ask_meets.specs.Strict.{cone_on, mark_in, strict_at_on, strict_on, StrictSets};
 ghost use Rattle.ask_meets.specs.Marking.{mark_number, mark_room, standing};
 ghost use Rattle.draft_form.specs.Sizes.{draft_nodes};
@@ -106,16 +107,19 @@ struct Stack {
 }
 
 impl Stack {
-    // A further mark; a full stack stays as it is.
+    // A further mark; a full stack loses its lowest.
     #[tactic(auto, using(lib_base::proofs::Pick::branches), unfolding(crate::specs::Marks::push_mark, crate::specs::Marking::standing))]
     fn push(&mut self, mark: Mark)
         ensures { standing self.new.marks self.new.depth
             ≡ push_mark (standing self.old.marks self.old.depth) (mark_number mark) }
     {
-        if self.depth < ROOM {
-            self.marks[self.depth] = mark;
-            self.depth += 1;
+        if self.depth == ROOM {
+            self.marks.copy_within(1.., 0);
+            self.marks[ROOM - 1] = mark;
+            return;
         }
+        self.marks[self.depth] = mark;
+        self.depth += 1;
     }
 
     // The topmost mark is taken; an empty stack has that of what does not name the behaviour.
@@ -162,12 +166,28 @@ impl Stack {
             _ => self.push(Mark::Apart),
         }
     }
+
+    // Whether this mark is on top and those below it, if any, are of what does not name the behaviour.
+    fn is_only(&self, mark: Mark) -> bool
+        ensures { result ≡ eqb (marks_packed (standing self.now.marks self.now.depth)) (mark_number mark) }
+    {
+        if self.depth == 0 {
+            return mark == Mark::Apart;
+        }
+        let top = self.depth - 1;
+        for below in 0..top {
+            if self.marks[below] != Mark::Apart {
+                return false;
+            }
+        }
+        self.marks[top] == mark
+    }
 }
 
-// The mark of the expression of entry v of behaviour i, toward i.
-fn mark_in(d: &Draft, rows: &[u64; ROW], i: usize, v: u64) -> Mark
+// The marks that the expression of entry v of behaviour i leaves, toward i: one, where it is whole.
+fn mark_in(d: &Draft, rows: &[u64; ROW], i: usize, v: u64) -> Stack
     requires { (i < behaviour_limit) × (entry_start v + entry_count v ≤ draft_nodes) }
-    ensures { mark_number result ≡ mark_in d.now rows.now i v }
+    ensures { marks_packed (standing result.marks result.depth) ≡ mark_in d.now rows.now i v }
 {
     let mut stack = Stack {
         marks: [Mark::Apart; ROOM],
@@ -176,7 +196,7 @@ fn mark_in(d: &Draft, rows: &[u64; ROW], i: usize, v: u64) -> Mark
     for node in draft_form::nodes_of(d, v) {
         stack.read(rows, i, draft_form::moved_node(d, i, *node));
     }
-    stack.pop()
+    stack
 }
 
 // The set without j.
@@ -207,7 +227,7 @@ fn strict_at(d: &Draft, rows: &[u64; ROW], n: usize, i: usize, v: u64) -> u64
     ensures { (e : ℕ) → v ≡ entry_of d.now e i → Gathers behaviour_limit result (strict_at_on d.now rows.now n e i) }
 {
     let names = check_reads::add_rows(rows, check_reads::names_in(d, i, v), n);
-    with_member(names, i, mark_in(d, rows, i, v) != Mark::Adds)
+    with_member(names, i, !mark_in(d, rows, i, v).is_only(Mark::Adds))
 }
 
 // The set with that, where the entry is a handler of one of the others.

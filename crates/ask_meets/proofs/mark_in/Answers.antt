@@ -24,4 +24,4 @@ unfolding mark_in
 returns c =
     let all = nodes_long c.args.d.now _ _ _ c.nodes_of-node-items.ensures (omega arith) in
     let q : c.loop-node.node-index ≡ entry_count c.args.v = omega (arith, all) in
-    rw (c.pop.ensures.mark, c.loop-node.invariant, q)
+    rw (c.loop-node.invariant, q)
