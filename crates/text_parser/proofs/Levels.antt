@@ -87,6 +87,26 @@ level_none m cs at n o p x i a ts fine e k g = rw i (none_up (read_at m k (drop 
     none_up unparsed q b = rw (up m k (drop at ts) unparsed q) refl
     none_up (parsed x rest) q b = absurd (omega (arith, b.number))
 
+-- what the loop keeps of a reading that failed, and of one that is done
+abbrev KeptOf : ℕ → List code.Token → ℕ → ℕ → List ℕ → List ℕ → Option Read → Type 0
+KeptOf m cs at n o p None = Reading (suc m) cs at n o p None × length p ≡ 7168
+KeptOf m cs at n o p (Some r) = Turn m cs at n o p r
+
+pub record Kept (m : ℕ) (cs : List code.Token) (at n : ℕ) (o p : List ℕ) (x : Option Read) : Type 0 where
+  pub case : KeptOf m cs at n o p x
+
+abbrev pub to_come : ℕ → Option Read → ℕ
+to_come size None = 0
+to_come size (Some r) = suc (size - r.at)
+
+pub level_begins : (m : ℕ) (cs : List code.Token) (at n : ℕ) (o p : List ℕ) (q : Option Read) → Reading m cs at n o p q → ReadWithin (length cs) at n 0 q → n ≤ at * 7 → length cs ≤ 1024
+    → length p ≡ 7168 → length o ≡ 7168 → Kept m cs at n o p q
+level_begins m cs at n o p None a w h f l j = record { case = (level_none m cs at n o p None refl a, l) }
+level_begins m cs at n o p (Some r) a w h f l j = record { case = level_start m cs at n o p r a w h f l j }
+
+pub still : {m : ℕ} {cs : List code.Token} {at n : ℕ} {o p : List ℕ} {x : Option Read} {r : Read} → x ≡ Some r → Kept m cs at n o p x → Turn m cs at n o p r
+still {m} {cs} {at} {n} {o} {p} {x} {r} e k = subst (KeptOf m cs at n o p) e k.case
+
 chain_ends : (l : ℕ) (next : List Token → Parsed) (k : ℕ) (a : Expr) (ts : List Token) → ((t : Token) (us : List Token) → ts ≡ t ∷ us → level_of t ≡ l → ⊥)
     → operator_chain l next k a ts ≡ parsed a ts
 unfolding operator_chain
@@ -146,7 +166,8 @@ module _ (m : ℕ) (ts : List Token) (cs : List code.Token) (k n : ℕ) (o p : L
   fails p₁ (parsed x rest) e a = absurd (omega (arith, a.number))
 
   turned : (q : Read) (p₁ : List ℕ) (f : ℕ) → f ≡ operator_of h.token → (x : Parsed) → read_at m k (drop (r.at + 1) ts) ≡ x → Agrees ts 0 r.end p p₁ (Some q) x
-      → ReadWithin (length ts) (r.at + 1) r.end 0 (Some q) → Closable n r.depth (length p₁) q → Midway m ts k n o (wrapped_in f n q p₁) (closed_of r.depth q) g
+      → ReadWithin (length ts) (r.at + 1) r.end 0 (Some q) → Closable n r.depth (length p₁) (Some q)
+      → Midway m ts k n o (wrapped_in f n (Some q) p₁) (record { at = q.at; end = q.end + 4; depth = deeper r.depth q.depth + 1 }) g
   turned q p₁ f fe unparsed e a b c = absurd (omega arith)
   turned q p₁ f fe (parsed x rest) e a b c =
       let v : List ℕ = expression_bytes w.expr ++ expression_bytes x in
@@ -168,8 +189,9 @@ module _ {m : ℕ} {cs : List code.Token} {at n : ℕ} {o p : List ℕ} {r : Rea
   pub next_room : r.end ≤ (r.at + 1) * 7
   next_room = let w = t.inside in omega (arith, t.room)
 
-  pub level_closable : (q : Read) (p₁ : List ℕ) → length p₁ ≡ 7168 → ReadWithin (length cs) (r.at + 1) r.end 0 (Some q) → Closable n r.depth (length p₁) q
-  level_closable q p₁ l b = rw l (let w = t.inside in omega (arith, t.room, t.few))
+  pub level_closable : (q : Option Read) (p₁ : List ℕ) → length p₁ ≡ 7168 → ReadWithin (length cs) (r.at + 1) r.end 0 q → Closable n r.depth (length p₁) q
+  level_closable None p₁ l b = tt
+  level_closable (Some q) p₁ l b = rw l (let w = t.inside in omega (arith, t.room, t.few))
 
   module _ {x : Option ℕ} {f : ℕ} (i : x ≡ operator_in cs r.at (suc m)) (is : x ≡ Some f) (lt : r.at < length cs) where
     -- no operand stands behind the operator
@@ -184,11 +206,13 @@ module _ {m : ℕ} {cs : List code.Token} {at n : ℕ} {o p : List ℕ} {r : Rea
               (read_at m k (drop (r.at + 1) ts)) refl (rd ts fine e k (omega (arith, t.inside))),
         ) refl
 
-    pub level_turn : (q : Read) (p₁ : List ℕ) → Reading m cs (r.at + 1) r.end p p₁ (Some q) → ReadWithin (length cs) (r.at + 1) r.end 0 (Some q) → length p₁ ≡ 7168
-        → (q₂ : Read) (p₂ : List ℕ) → q₂ ≡ closed_of r.depth q → p₂ ≡ wrapped_in f n q p₁ → length p₂ ≡ 7168 → Turn m cs at n o p₂ q₂
-    level_turn q p₁ rd b l q₂ p₂ qe pe l₂ =
+    pub level_turn : (q : Option Read) (p₁ : List ℕ) → Reading m cs (r.at + 1) r.end p p₁ q → ReadWithin (length cs) (r.at + 1) r.end 0 q → length p₁ ≡ 7168
+        → (q₂ : Read) (p₂ : List ℕ) → Some q₂ ≡ closed_of r.depth q → p₂ ≡ wrapped_in f n q p₁ → length p₂ ≡ 7168 → Turn m cs at n o p₂ q₂
+    level_turn None p₁ rd b l q₂ p₂ e pe l₂ = let z : ◌≡◌ {A = ℕ} 0 1 = cc in absurd (omega arith)
+    level_turn (Some q) p₁ rd b l q₂ p₂ e pe l₂ =
         let w = t.inside in
         let d = deeper_sum r.depth q.depth in
+        let qe : q₂ ≡ record { at = q.at; end = q.end + 4; depth = deeper r.depth q.depth + 1 } = cc in
         record {
           whole = λ ts fine e k g.
               let s : length cs ≡ length ts = long_as ts cs e in
@@ -196,10 +220,15 @@ module _ {m : ℕ} {cs : List code.Token} {at n : ℕ} {o p : List ℕ} {r : Rea
               let v = operator_some ts cs r.at (suc m) f h (omega arith) i is in
               rw (qe, pe)
               (turned m ts cs k n o p r (read_at (suc m) k (drop at ts)) (t.whole ts fine e k g) h v.0 (omega arith) (omega (arith, t.room, t.few, t.long)) q p₁ f v.1
-              (read_at m k (drop (r.at + 1) ts)) refl (rd ts fine e k (omega arith)) (rw (sym s) b) (level_closable q p₁ l b));
+              (read_at m k (drop (r.at + 1) ts)) refl (rd ts fine e k (omega arith)) (rw (sym s) b) (level_closable (Some q) p₁ l b));
           inside = rw qe (omega arith);
           room = t.room;
           few = t.few;
           kept = l₂;
           long = t.long;
         }
+
+    pub level_goes_on : (q : Option Read) (p₁ : List ℕ) → Reading m cs (r.at + 1) r.end p p₁ q → ReadWithin (length cs) (r.at + 1) r.end 0 q → length p₁ ≡ 7168
+        → (y : Option Read) (p₂ : List ℕ) → y ≡ closed_of r.depth q → p₂ ≡ wrapped_in f n q p₁ → length p₂ ≡ 7168 → Kept m cs at n o p₂ y
+    level_goes_on None p₁ rd b l y p₂ e pe l₂ = rw (e, pe) (record { case = (level_fails p₁ None refl rd, l) })
+    level_goes_on (Some q) p₁ rd b l y p₂ e pe l₂ = rw e (record { case = level_turn (Some q) p₁ rd b l (record { at = q.at; end = q.end + 4; depth = deeper r.depth q.depth + 1 }) p₂ refl pe l₂ })

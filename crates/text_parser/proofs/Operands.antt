@@ -40,7 +40,7 @@ past_then m all f (t ∷ ts) = by_two (λ (x y : Parsed). x ≡ then_parse y f) 
 
 -- ---- arguments
 
-agrees_under : (ts : List Token) (d n : ℕ) (o p : List ℕ) (q : Read) (g : Parsed) → Agrees ts 0 n o p (Some q) g → Agrees ts d n o p (Some (under_of d q)) g
+agrees_under : (ts : List Token) (d n : ℕ) (o p : List ℕ) (q : Read) (g : Parsed) → Agrees ts 0 n o p (Some q) g → Agrees ts d n o p (under_of d (Some q)) g
 agrees_under ts d n o p q unparsed a = absurd (omega arith)
 agrees_under ts d n o p q (parsed e rest) a =
     record { number = refl; onward = a.onward; size = a.size; written = a.written; nests = ap (deeper d) (a.nests ∙ deeper_none (nesting e)) }
@@ -58,8 +58,9 @@ module _ (m : ℕ) (cs : List code.Token) (o p : List ℕ) (r : Read) (b : Bool)
   argument_none q i rd =
       rw i (λ ts fine x k l. rw (past_mark m (read_at 6 k) ts cs r.at h fine x, ← g, f) (agrees_none ts r.depth r.end o p (read_at 6 k (drop (r.at + 1) ts)) (rd ts fine x k (omega arith))), tt)
 
-  pub argument_read : (q : Read) → Reading 6 cs (r.at + 1) r.end o p (Some q) → ReadWithin (length cs) (r.at + 1) r.end 0 (Some q) → Argued m cs o p r (Some (under_of r.depth q))
-  argument_read q rd w =
+  pub argument_read : (q : Option Read) → Reading 6 cs (r.at + 1) r.end o p q → ReadWithin (length cs) (r.at + 1) r.end 0 q → Argued m cs o p r (under_of r.depth q)
+  argument_read None rd w = argument_none None refl rd
+  argument_read (Some q) rd w =
       let l = deeper_sum r.depth q.depth in (
         λ ts fine x k l. rw (past_mark m (read_at 6 k) ts cs r.at h fine x, ← g, f) (agrees_under ts r.depth r.end o p q (read_at 6 k (drop (r.at + 1) ts)) (rd ts fine x k (omega arith))),
         omega arith,
@@ -71,7 +72,7 @@ argued_in m cs o p r q i a = let w = a.1 in omega arith
 -- ---- brackets
 
 ended_agrees : (ts : List Token) (cs : List code.Token) → All InRange ts → cs ≡ map token_code ts → (n : ℕ) (o p : List ℕ) (q : Read) (g : Parsed) → Agrees ts 0 n o p (Some q) g
-    → Agrees ts 0 n o p (ended_in cs q) (then_parse g (λ e vs. past 2 (λ ws. parsed e ws) vs))
+    → Agrees ts 0 n o p (ended_in cs (Some q)) (then_parse g (λ e vs. past 2 (λ ws. parsed e ws) vs))
 ended_agrees ts cs fine x n o p q unparsed a = absurd (omega arith)
 ended_agrees ts cs fine x n o p q (parsed e rest) a =
     rw (a.onward, past_mark 2 (λ ws. parsed e ws) ts cs q.at (omega arith) fine x)
@@ -85,7 +86,7 @@ mark_inside : (cs : List code.Token) (to : ℕ) → bracket_at cs to ≡ 2 → t
 mark_inside cs to e =
     split (ltb to (length cs)) (λ b. ltb-true to (length cs) b) (λ b. absurd (omega (arith, e, no_mark cs to (ltb-false to (length cs) b))))
 
-within_ended : (cs : List code.Token) (at n : ℕ) (q : Read) → ReadWithin (length cs) at n 0 (Some q) → ReadWithin (length cs) at n 0 (ended_in cs q)
+within_ended : (cs : List code.Token) (at n : ℕ) (q : Read) → ReadWithin (length cs) at n 0 (Some q) → ReadWithin (length cs) at n 0 (ended_in cs (Some q))
 within_ended cs at n q w =
     by_test (ReadWithin (length cs) at n 0) (eqb (bracket_at cs q.at) 2)
     (λ e. let h : q.at < length cs = mark_inside cs q.at (eqb-true (bracket_at cs q.at) 2 e) in omega arith)
@@ -116,18 +117,6 @@ abbrev pub Follows : ℕ → List code.Token → List ℕ → List ℕ → Optio
 Follows m cs o p None q = q ≡ None
 Follows m cs o p (Some r) q = Argued m cs o p r q
 
-abbrev pub ended_of : List code.Token → Option Read → Option Read
-ended_of cs None = None
-ended_of cs (Some r) = ended_in cs r
-
-abbrev pub closed_up : Option Read → Option Read
-closed_up None = None
-closed_up (Some r) = Some (closed_of 0 r)
-
-abbrev pub wrapped_up : ℕ → ℕ → Option Read → List ℕ → List ℕ
-wrapped_up f n None p = p
-wrapped_up f n (Some r) p = wrapped_in f n r p
-
 abbrev Roomy : ℕ → Option Read → Type 0
 Roomy size None = Unit {0}
 Roomy size (Some r) = r.end + 4 ≤ size
@@ -143,7 +132,7 @@ further {n} {o} {p} {q} {v} {end} {to} w s h e =
 
 module _ (ts : List Token) (cs : List code.Token) (fine : All InRange ts) (x : cs ≡ map token_code ts) (k n : ℕ) (o p₃ : List ℕ) (fits : n ≤ length o) where
   third : (a b : Expr) (p₂ : List ℕ) (end₂ d₂ : ℕ) → SoFar n o p₂ (expression_bytes a ++ expression_bytes b) end₂ → d₂ ≡ deeper (nesting a) (nesting b) → (r : Option Read) (g : Parsed) → Agrees ts d₂ end₂ p₂ p₃ r g
-      → Roomy (length p₃) r → Agrees ts 0 n o (wrapped_up if_fn n (ended_of cs r) p₃) (closed_up (ended_of cs r)) (then_parse g (λ c zs. past 2 (λ rest. parsed (app3 if_fn a b c) rest) zs))
+      → Roomy (length p₃) r → Agrees ts 0 n o (wrapped_in if_fn n (ended_in cs r) p₃) (closed_of 0 (ended_in cs r)) (then_parse g (λ c zs. past 2 (λ rest. parsed (app3 if_fn a b c) rest) zs))
   third a b p₂ end₂ d₂ s d None unparsed h m = refl
   third a b p₂ end₂ d₂ s d None (parsed c zs) h m = absurd (omega (arith, h.number))
   third a b p₂ end₂ d₂ s d (Some r) unparsed h m = absurd (omega arith)
@@ -154,7 +143,7 @@ module _ (ts : List Token) (cs : List code.Token) (fine : All InRange ts) (x : c
       let y : SoFar n o p₃ v r.end = rw q at u in
       let z : deeper 0 r.depth ≡ deeper (deeper (nesting a) (nesting b)) (nesting c) = deeper_none r.depth ∙ h.nests ∙ rw d in
       rw (h.onward, past_mark 2 (λ rest. parsed (app3 if_fn a b c) rest) ts cs r.at (omega arith) fine x)
-      (by_two (λ (q : Option Read) (g : Parsed). Agrees ts 0 n o (wrapped_up if_fn n q p₃) (closed_up q) g) (eqb (bracket_at cs r.at) 2)
+      (by_two (λ (q : Option Read) (g : Parsed). Agrees ts 0 n o (wrapped_in if_fn n q p₃) (closed_of 0 q) g) (eqb (bracket_at cs r.at) 2)
       (λ t. record {
         number = refl;
         onward = refl;
@@ -165,7 +154,7 @@ module _ (ts : List Token) (cs : List code.Token) (fine : All InRange ts) (x : c
 
   second : (a : Expr) (p₁ p₂ : List ℕ) (at₁ end₁ d₁ : ℕ) → SoFar n o p₁ (expression_bytes a) end₁ → d₁ ≡ nesting a → length cs - at₁ ≤ suc k → (r r₃ : Option Read) (g : Parsed) → Agrees ts d₁ end₁ p₁ p₂ r g
       → ReadWithin (length cs) at₁ end₁ d₁ r → Follows 3 cs p₂ p₃ r r₃ → Roomy (length p₃) r₃
-      → Agrees ts 0 n o (wrapped_up if_fn n (ended_of cs r₃) p₃) (closed_up (ended_of cs r₃))
+      → Agrees ts 0 n o (wrapped_in if_fn n (ended_in cs r₃) p₃) (closed_of 0 (ended_in cs r₃))
       (then_parse g (λ b xs. then_parse (past 3 (read_at 6 k) xs) (λ c zs. past 2 (λ rest. parsed (app3 if_fn a b c) rest) zs)))
   second a p₁ p₂ at₁ end₁ d₁ s d l None r₃ unparsed h w y m = rw y refl
   second a p₁ p₂ at₁ end₁ d₁ s d l None r₃ (parsed b xs) h w y m = absurd (omega (arith, h.number))
@@ -176,7 +165,7 @@ module _ (ts : List Token) (cs : List code.Token) (fine : All InRange ts) (x : c
 
   first : (p₁ p₂ : List ℕ) (at : ℕ) → length cs - at ≤ suc k → (r r₂ r₃ : Option Read) (g : Parsed) → Agrees ts 0 n o p₁ r g → ReadWithin (length cs) at n 0 r
       → Follows 3 cs p₁ p₂ r r₂ → Follows 3 cs p₂ p₃ r₂ r₃ → Roomy (length p₃) r₃
-      → Agrees ts 0 n o (wrapped_up if_fn n (ended_of cs r₃) p₃) (closed_up (ended_of cs r₃))
+      → Agrees ts 0 n o (wrapped_in if_fn n (ended_in cs r₃) p₃) (closed_of 0 (ended_in cs r₃))
       (then_parse g (λ a vs. then_parse (past 3 (read_at 6 k) vs) (λ b xs. then_parse (past 3 (read_at 6 k) xs) (λ c zs. past 2 (λ rest. parsed (app3 if_fn a b c) rest) zs))))
   first p₁ p₂ at l None r₂ r₃ unparsed h w y z m = let e : r₃ ≡ None = rw y at z in rw e refl
   first p₁ p₂ at l None r₂ r₃ (parsed a vs) h w y z m = absurd (omega (arith, h.number))
@@ -191,18 +180,19 @@ within_more m cs o p at n None q w a = rw a tt
 within_more m cs o p at n (Some r) None w a = tt
 within_more m cs o p at n (Some r) (Some q) w a = let v = a.1 in omega arith
 
-within_closed : (size at n : ℕ) (r : Option Read) → ReadWithin size (at + 1) n 0 r → ReadWithin size at n 0 (closed_up r)
+within_closed : (size at n : ℕ) (r : Option Read) → ReadWithin size (at + 1) n 0 r → ReadWithin size at n 0 (closed_of 0 r)
 within_closed size at n None w = tt
 within_closed size at n (Some r) w = let l = deeper_sum 0 r.depth in omega arith
 
-pub one_closable : (cs : List code.Token) (at n : ℕ) (p : List ℕ) (r : Read) → ReadWithin (length cs) (at + 1) n 0 (Some r) → n ≤ at * 7 → length cs ≤ 1024 → length p ≡ 7168 → Closable n 0 (length p) r
-one_closable cs at n p r w h f l = rw l (omega arith)
+pub one_closable : (cs : List code.Token) (at n : ℕ) (p : List ℕ) (r : Option Read) → ReadWithin (length cs) (at + 1) n 0 r → n ≤ at * 7 → length cs ≤ 1024 → length p ≡ 7168 → Closable n 0 (length p) r
+one_closable cs at n p None w h f l = tt
+one_closable cs at n p (Some r) w h f l = rw l (omega arith)
 
 roomy_after : (size at n : ℕ) (r : Option Read) → ReadWithin size (at + 1) n 0 r → n ≤ at * 7 → size ≤ 1024 → Roomy 7168 r
 roomy_after size at n None w h f = tt
 roomy_after size at n (Some r) w h f = omega arith
 
-within_end : (cs : List code.Token) (at n : ℕ) (r : Option Read) → ReadWithin (length cs) at n 0 r → ReadWithin (length cs) at n 0 (ended_of cs r)
+within_end : (cs : List code.Token) (at n : ℕ) (r : Option Read) → ReadWithin (length cs) at n 0 r → ReadWithin (length cs) at n 0 (ended_in cs r)
 within_end cs at n None w = tt
 within_end cs at n (Some r) w = within_ended cs at n r w
 
@@ -211,10 +201,10 @@ module _ (cs : List code.Token) (at n : ℕ) (o p₁ p₂ p₃ : List ℕ) (ra r
   three_within : ReadWithin (length cs) (at + 1) n 0 rc
   three_within = within_more 3 cs p₂ p₃ (at + 1) n rb rc (within_more 3 cs p₁ p₂ (at + 1) n ra rb A.1 B) C
 
-  pub choice_closable : (re : Read) → Some re ≡ ended_of cs rc → length p₃ ≡ 7168 → Closable n 0 (length p₃) re
+  pub choice_closable : (re : Option Read) → re ≡ ended_in cs rc → length p₃ ≡ 7168 → Closable n 0 (length p₃) re
   choice_closable re e l = one_closable cs at n p₃ re (subst (ReadWithin (length cs) (at + 1) n 0) (sym e) (within_end cs (at + 1) n rc three_within)) room few l
 
-  pub chosen : (re q : Option Read) (p₄ : List ℕ) → re ≡ ended_of cs rc → q ≡ closed_up re → p₄ ≡ wrapped_up if_fn n re p₃ → at < length cs → length o ≡ 7168 → length p₃ ≡ 7168
+  pub chosen : (re q : Option Read) (p₄ : List ℕ) → re ≡ ended_in cs rc → q ≡ closed_of 0 re → p₄ ≡ wrapped_in if_fn n re p₃ → at < length cs → length o ≡ 7168 → length p₃ ≡ 7168
       → ChoiceRead cs at n o p₄ q × ReadWithin (length cs) at n 0 q
   chosen re q p₄ e f w g l l₃ =
       rw (f, w, e) (
@@ -222,7 +212,7 @@ module _ (cs : List code.Token) (at n : ℕ) (o p₁ p₂ p₃ : List ℕ) (ra r
             rw (choice_as (read_at 6 k) (drop (at + 1) ts))
             (first ts cs fine x k n o p₃ (omega arith) p₁ p₂ (at + 1) (omega arith) ra rb rc (past 1 (read_at 6 k) (drop (at + 1) ts)) (A.0 ts fine x k (omega arith)) A.1 B C
             (rw l₃ (roomy_after (length cs) at n rc three_within room few))),
-        within_closed (length cs) at n (ended_of cs rc) (within_end cs (at + 1) n rc three_within),
+        within_closed (length cs) at n (ended_in cs rc) (within_end cs (at + 1) n rc three_within),
       )
 
 -- ---- operands
@@ -269,8 +259,8 @@ nesting_one : (f : ℕ) (a : Expr) → nesting (app1 f a) ≡ suc (nesting a)
 unfolding nesting
 nesting_one f a = refl
 
-not_agrees : (ts : List Token) (n : ℕ) (o p : List ℕ) (r : Read) (g : Parsed) → Agrees ts 0 n o p (Some r) g → Closable n 0 (length p) r → n ≤ length o
-    → Agrees ts 0 n o (wrapped_in not_fn n r p) (Some (closed_of 0 r)) (then_parse g (λ a us. parsed (app1 not_fn a) us))
+not_agrees : (ts : List Token) (n : ℕ) (o p : List ℕ) (r : Read) (g : Parsed) → Agrees ts 0 n o p (Some r) g → Closable n 0 (length p) (Some r) → n ≤ length o
+    → Agrees ts 0 n o (wrapped_in not_fn n (Some r) p) (closed_of 0 (Some r)) (then_parse g (λ a us. parsed (app1 not_fn a) us))
 not_agrees ts n o p r unparsed a c h = absurd (omega arith)
 not_agrees ts n o p r (parsed e rest) a c h =
     record {
@@ -309,10 +299,12 @@ module _ (cs : List code.Token) (at n : ℕ) (o : List ℕ) (room : n ≤ at * 7
     pub operand_not_none : (q : Option Read) → q ≡ None → Reading 0 cs (at + 1) n o p None → Reading 0 cs at n o p q
     operand_not_none q i rd = subst (Reading 0 cs at n o p) (sym i) (negated None p (λ ts fine x k h. none_then ts n o p (read_at 0 k (drop (at + 1) ts)) _ (rd ts fine x k h)))
 
-    pub operand_not : (r : Read) (p₂ : List ℕ) → Reading 0 cs (at + 1) n o p (Some r) → ReadWithin (length cs) (at + 1) n 0 (Some r) → length p ≡ 7168
-        → p₂ ≡ wrapped_in not_fn n r p → Reading 0 cs at n o p₂ (Some (closed_of 0 r)) × ReadWithin (length cs) at n 0 (Some (closed_of 0 r))
-    operand_not r p₂ rd w l g = (
-      negated (Some (closed_of 0 r)) p₂ (λ ts fine x k h. rw g (not_agrees ts n o p r (read_at 0 k (drop (at + 1) ts)) (rd ts fine x k h) (one_closable cs at n p r w room few l) (omega arith))),
+    pub operand_not : (r : Option Read) (p₂ : List ℕ) → Reading 0 cs (at + 1) n o p r → ReadWithin (length cs) (at + 1) n 0 r → length p ≡ 7168
+        → p₂ ≡ wrapped_in not_fn n r p → Reading 0 cs at n o p₂ (closed_of 0 r) × ReadWithin (length cs) at n 0 (closed_of 0 r)
+    operand_not None p₂ rd w l g = (rw g (operand_not_none None refl rd), tt)
+    operand_not (Some r) p₂ rd w l g = (
+      negated (closed_of 0 (Some r)) p₂
+          (λ ts fine x k h. rw g (not_agrees ts n o p r (read_at 0 k (drop (at + 1) ts)) (rd ts fine x k h) (one_closable cs at n p (Some r) w room few l) (omega arith))),
       within_closed (length cs) at n (Some r) w,
     )
 
@@ -324,11 +316,11 @@ module _ (cs : List code.Token) (at n : ℕ) (o : List ℕ) (room : n ≤ at * 7
       rw (taken ts at k t.token (omega arith) t.onward, is_function t.token if_fn same) (c ts fine x (k - 1) (omega arith))
 
   bracket_agrees : (ts : List Token) → All InRange ts → cs ≡ map token_code ts → (p : List ℕ) (r : Option Read) (g : Parsed) → Agrees ts 0 n o p r g
-      → Agrees ts 0 n o p (ended_of cs r) (then_parse g (λ e vs. past 2 (λ ws. parsed e ws) vs))
+      → Agrees ts 0 n o p (ended_in cs r) (then_parse g (λ e vs. past 2 (λ ws. parsed e ws) vs))
   bracket_agrees ts fine x p None g a = none_then ts n o p g _ a
   bracket_agrees ts fine x p (Some r) g a = ended_agrees ts cs fine x n o p r g a
 
-  pub operand_brackets : slice_get cs at ≡ Some Opening → (p : List ℕ) (r q : Option Read) → q ≡ ended_of cs r → Argued 1 cs o p (record { at = at; end = n; depth = 0 }) r
+  pub operand_brackets : slice_get cs at ≡ Some Opening → (p : List ℕ) (r q : Option Read) → q ≡ ended_in cs r → Argued 1 cs o p (record { at = at; end = n; depth = 0 }) r
       → Reading 0 cs at n o p q × ReadWithin (length cs) at n 0 q
   operand_brackets e p r q i a =
       rw i (

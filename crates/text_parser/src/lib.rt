@@ -29,12 +29,15 @@ pub fn disjunction(ts: &[Token], at: usize, out: &mut [u8; FIELD_BYTES], n: usiz
     ensures read_within { ReadWithin (length ts.now) at n 0 result }
     ensures out_len { length out.new ≡ field_bytes }
 {
-    let mut r = conjunction(ts, at, out, n)?;
-    while let Some(f) = text_phrase::operator_at(ts, r.at, levels::DISJUNCTION) {
-        let right = conjunction(ts, r.at + 1, out, r.end)?;
-        r = text_phrase::close(f, n, r.depth, right, out);
+    let mut r = conjunction(ts, at, out, n);
+    while let Some(left) = r {
+        let Some(f) = text_phrase::operator_at(ts, left.at, levels::DISJUNCTION) else {
+            return r;
+        };
+        r = conjunction(ts, left.at + 1, out, left.end);
+        r = text_phrase::close(f, n, left.depth, r, out);
     }
-    Some(r)
+    r
 }
 
 // Level 5: `&&`.
@@ -46,12 +49,15 @@ fn conjunction(ts: &[Token], at: usize, out: &mut [u8; FIELD_BYTES], n: usize) -
     ensures read_within { ReadWithin (length ts.now) at n 0 result }
     ensures out_len { length out.new ≡ field_bytes }
 {
-    let mut r = equality(ts, at, out, n)?;
-    while let Some(f) = text_phrase::operator_at(ts, r.at, levels::CONJUNCTION) {
-        let right = equality(ts, r.at + 1, out, r.end)?;
-        r = text_phrase::close(f, n, r.depth, right, out);
+    let mut r = equality(ts, at, out, n);
+    while let Some(left) = r {
+        let Some(f) = text_phrase::operator_at(ts, left.at, levels::CONJUNCTION) else {
+            return r;
+        };
+        r = equality(ts, left.at + 1, out, left.end);
+        r = text_phrase::close(f, n, left.depth, r, out);
     }
-    Some(r)
+    r
 }
 
 // Level 4: `== !=`.
@@ -63,12 +69,15 @@ fn equality(ts: &[Token], at: usize, out: &mut [u8; FIELD_BYTES], n: usize) -> O
     ensures read_within { ReadWithin (length ts.now) at n 0 result }
     ensures out_len { length out.new ≡ field_bytes }
 {
-    let mut r = ordering(ts, at, out, n)?;
-    while let Some(f) = text_phrase::operator_at(ts, r.at, levels::EQUALITY) {
-        let right = ordering(ts, r.at + 1, out, r.end)?;
-        r = text_phrase::close(f, n, r.depth, right, out);
+    let mut r = ordering(ts, at, out, n);
+    while let Some(left) = r {
+        let Some(f) = text_phrase::operator_at(ts, left.at, levels::EQUALITY) else {
+            return r;
+        };
+        r = ordering(ts, left.at + 1, out, left.end);
+        r = text_phrase::close(f, n, left.depth, r, out);
     }
-    Some(r)
+    r
 }
 
 // Level 3: `> >= < <=`.
@@ -80,12 +89,15 @@ fn ordering(ts: &[Token], at: usize, out: &mut [u8; FIELD_BYTES], n: usize) -> O
     ensures read_within { ReadWithin (length ts.now) at n 0 result }
     ensures out_len { length out.new ≡ field_bytes }
 {
-    let mut r = sum(ts, at, out, n)?;
-    while let Some(f) = text_phrase::operator_at(ts, r.at, levels::ORDERING) {
-        let right = sum(ts, r.at + 1, out, r.end)?;
-        r = text_phrase::close(f, n, r.depth, right, out);
+    let mut r = sum(ts, at, out, n);
+    while let Some(left) = r {
+        let Some(f) = text_phrase::operator_at(ts, left.at, levels::ORDERING) else {
+            return r;
+        };
+        r = sum(ts, left.at + 1, out, left.end);
+        r = text_phrase::close(f, n, left.depth, r, out);
     }
-    Some(r)
+    r
 }
 
 // Level 2: `+ -`.
@@ -97,12 +109,15 @@ fn sum(ts: &[Token], at: usize, out: &mut [u8; FIELD_BYTES], n: usize) -> Option
     ensures read_within { ReadWithin (length ts.now) at n 0 result }
     ensures out_len { length out.new ≡ field_bytes }
 {
-    let mut r = product(ts, at, out, n)?;
-    while let Some(f) = text_phrase::operator_at(ts, r.at, levels::SUM) {
-        let right = product(ts, r.at + 1, out, r.end)?;
-        r = text_phrase::close(f, n, r.depth, right, out);
+    let mut r = product(ts, at, out, n);
+    while let Some(left) = r {
+        let Some(f) = text_phrase::operator_at(ts, left.at, levels::SUM) else {
+            return r;
+        };
+        r = product(ts, left.at + 1, out, left.end);
+        r = text_phrase::close(f, n, left.depth, r, out);
     }
-    Some(r)
+    r
 }
 
 // Level 1: `* /`.
@@ -114,12 +129,15 @@ fn product(ts: &[Token], at: usize, out: &mut [u8; FIELD_BYTES], n: usize) -> Op
     ensures read_within { ReadWithin (length ts.now) at n 0 result }
     ensures out_len { length out.new ≡ field_bytes }
 {
-    let mut r = operand(ts, at, out, n)?;
-    while let Some(f) = text_phrase::operator_at(ts, r.at, levels::PRODUCT) {
-        let right = operand(ts, r.at + 1, out, r.end)?;
-        r = text_phrase::close(f, n, r.depth, right, out);
+    let mut r = operand(ts, at, out, n);
+    while let Some(left) = r {
+        let Some(f) = text_phrase::operator_at(ts, left.at, levels::PRODUCT) else {
+            return r;
+        };
+        r = operand(ts, left.at + 1, out, left.end);
+        r = text_phrase::close(f, n, left.depth, r, out);
     }
-    Some(r)
+    r
 }
 
 // Level 0: `!`, numbers, names, brackets and `if`.
@@ -135,7 +153,7 @@ fn operand(ts: &[Token], at: usize, out: &mut [u8; FIELD_BYTES], n: usize) -> Op
     match t {
         Token::Function(functions::NOT) => {
             let r = operand(ts, at + 1, out, n)?;
-            Some(text_phrase::close(functions::NOT, n, 0, r, out))
+            text_phrase::close(functions::NOT, n, 0, Some(r), out)
         }
         Token::Function(functions::IF) => choice(ts, at, out, n),
         Token::Opening => {
@@ -144,7 +162,7 @@ fn operand(ts: &[Token], at: usize, out: &mut [u8; FIELD_BYTES], n: usize) -> Op
                 end: n,
                 depth: 0,
             };
-            let r = argument(ts, Token::Opening, start, out)?;
+            let r = argument(ts, Token::Opening, start, out);
             text_phrase::ended(ts, r)
         }
         _ => text_phrase::leaf(t, at, out, n),
@@ -170,9 +188,9 @@ fn choice(ts: &[Token], at: usize, out: &mut [u8; FIELD_BYTES], n: usize) -> Opt
     };
     let mut r = argument(ts, Token::Opening, start, out)?;
     r = argument(ts, Token::Comma, r, out)?;
-    r = argument(ts, Token::Comma, r, out)?;
-    r = text_phrase::ended(ts, r)?;
-    Some(text_phrase::close(functions::IF, n, 0, r, out))
+    let three = argument(ts, Token::Comma, r, out);
+    let last = text_phrase::ended(ts, three);
+    text_phrase::close(functions::IF, n, 0, last, out)
 }
 
 // A bracket or comma, which is due, and a formula; what was read before is r.
@@ -187,6 +205,6 @@ fn argument(ts: &[Token], due: Token, r: Read, out: &mut [u8; FIELD_BYTES]) -> O
     if !text_phrase::stands(ts, r.at, due) {
         return None;
     }
-    let q = disjunction(ts, r.at + 1, out, r.end)?;
-    Some(text_phrase::under(r.depth, q))
+    let q = disjunction(ts, r.at + 1, out, r.end);
+    text_phrase::under(r.depth, q)
 }

@@ -63,21 +63,27 @@ mark_from (Some t) = mark_code t
 unfoldable pub bracket_at : List code.Token → ℕ → ℕ
 bracket_at ts at = mark_from (slice_get ts at)
 
-abbrev pub under_of : ℕ → Read → Read
-under_of d r = record { at = r.at; end = r.end; depth = deeper d r.depth }
+abbrev pub under_of : ℕ → Option Read → Option Read
+under_of d None = None
+under_of d (Some r) = Some (record { at = r.at; end = r.end; depth = deeper d r.depth })
 
 -- an application of the arguments from start on: four bytes more, and one level of nesting
-abbrev pub closed_of : ℕ → Read → Read
-closed_of d r = record { at = r.at; end = r.end + 4; depth = deeper d r.depth + 1 }
+abbrev pub closed_of : ℕ → Option Read → Option Read
+closed_of d None = None
+closed_of d (Some r) = Some (record { at = r.at; end = r.end + 4; depth = deeper d r.depth + 1 })
 
-abbrev pub wrapped_in : ℕ → ℕ → Read → List ℕ → List ℕ
-wrapped_in f start r o = as_application f start r.end o
+abbrev pub wrapped_in : ℕ → ℕ → Option Read → List ℕ → List ℕ
+wrapped_in f start None o = o
+wrapped_in f start (Some r) o = as_application f start r.end o
 
-abbrev pub Closable : ℕ → ℕ → ℕ → Read → Type 0
-Closable start d room r = (start ≤ r.end) × (r.end + 4 ≤ room) × (d + r.depth < 65536)
+abbrev pub Closable : ℕ → ℕ → ℕ → Option Read → Type 0
+Closable start d room None = Unit {0}
+Closable start d room (Some r) = (start ≤ r.end) × (r.end + 4 ≤ room) × (d + r.depth < 65536)
 
-abbrev pub ended_in : List code.Token → Read → Option Read
-ended_in ts r = pick (eqb (bracket_at ts r.at) 2) (Some (record { at = r.at + 1; end = r.end; depth = r.depth })) None
+abbrev pub ended_in : List code.Token → Option Read → Option Read
+ended_in ts None = None
+ended_in ts (Some r) =
+    pick (eqb (bracket_at ts r.at) 2) (Some (record { at = r.at + 1; end = r.end; depth = r.depth })) None
 
 unfoldable pub leaf_read : code.Token → ℕ → ℕ → Option Read
 leaf_read (Number v) at n = Some (record { at = at + 1; end = n + 7; depth = 1 })

@@ -42,35 +42,38 @@ pub fn stands(ts: &[Token], at: usize, mark: Token) -> bool
 }
 
 // A reading after others of nesting d.
-pub fn under(d: usize, r: Read) -> Read
+pub fn under(d: usize, r: Option<Read>) -> Option<Read>
     ensures { result ≡ under_of d r }
 {
-    Read {
-        depth: lib_order::larger_size(d, r.depth),
-        ..r
-    }
+    let read = r?;
+    Some(Read {
+        depth: lib_order::larger_size(d, read.depth),
+        ..read
+    })
 }
 
 // The arguments from `start` on become an application of function f; those before r's nest d deep.
-pub fn close(f: u8, start: usize, d: usize, r: Read, out: &mut [u8]) -> Read
+pub fn close(f: u8, start: usize, d: usize, r: Option<Read>, out: &mut [u8]) -> Option<Read>
     requires closable { Closable start d (length out.old) r }
     requires out_len_bound { length out.old ≤ longest_value }
     ensures value { result ≡ closed_of d r }
     ensures out_after { out.new ≡ wrapped_in f start r out.old }
 {
+    let r = r?;
     sheet_write::wrap_application(out, start, r.end, f);
-    Read {
+    Some(Read {
         at: r.at,
         end: r.end + sizes::BYTE_HEAD,
         depth: lib_order::larger_size(d, r.depth) + 1,
-    }
+    })
 }
 
 // A closing bracket is due.
 #[tactic(auto, using(lib_base::proofs::Pick::branches))]
-pub fn ended(ts: &[Token], r: Read) -> Option<Read>
+pub fn ended(ts: &[Token], r: Option<Read>) -> Option<Read>
     ensures { result ≡ ended_in ts.now r }
 {
+    let r = r?;
     if !stands(ts, r.at, Token::Closing) {
         return None;
     }

@@ -1,6 +1,6 @@
--- Each call has fewer tokens left, or as many and a lower level. A level's loop keeps `Turn`.
+-- Each call has fewer tokens left, or as many and a lower level. A level's loop keeps `Kept`.
 use Rattle.std.proofs.Common.{◌*◌, ◌+◌, ◌-◌, length}
-use Rattle.text_parser.proofs.Levels.{Turn}
+use Rattle.text_parser.proofs.Levels.{Kept, to_come}
 use Rattle.text_parser.proofs.+argument_choice_conjunction_disjunction_equality_operand_ordering_product_sum.Given as goal
 
 abbrev pub decreases-argument : goal.decreases-argument
@@ -30,38 +30,38 @@ decreases-conjunction l = (length l.ts.now - l.at) * 9 + 7
 abbrev pub decreases-disjunction : goal.decreases-disjunction
 decreases-disjunction l = (length l.ts.now - l.at) * 9 + 8
 
-abbrev pub invariant-product-loop-f : goal.invariant-product-loop-f
-invariant-product-loop-f l = Turn 0 l.ts l.at l.n l.fn.out l.out l.r
+abbrev pub invariant-product-loop-r : goal.invariant-product-loop-r
+invariant-product-loop-r l = Kept 0 l.ts l.at l.n l.fn.out l.out l.r
 
-abbrev pub decreases-product-loop-f : goal.decreases-product-loop-f
-decreases-product-loop-f l = length l.ts - l.r.at
+abbrev pub decreases-product-loop-r : goal.decreases-product-loop-r
+decreases-product-loop-r l = to_come (length l.ts) l.r
 
-abbrev pub invariant-sum-loop-f : goal.invariant-sum-loop-f
-invariant-sum-loop-f l = Turn 1 l.ts l.at l.n l.fn.out l.out l.r
+abbrev pub invariant-sum-loop-r : goal.invariant-sum-loop-r
+invariant-sum-loop-r l = Kept 1 l.ts l.at l.n l.fn.out l.out l.r
 
-abbrev pub decreases-sum-loop-f : goal.decreases-sum-loop-f
-decreases-sum-loop-f l = length l.ts - l.r.at
+abbrev pub decreases-sum-loop-r : goal.decreases-sum-loop-r
+decreases-sum-loop-r l = to_come (length l.ts) l.r
 
-abbrev pub invariant-ordering-loop-f : goal.invariant-ordering-loop-f
-invariant-ordering-loop-f l = Turn 2 l.ts l.at l.n l.fn.out l.out l.r
+abbrev pub invariant-ordering-loop-r : goal.invariant-ordering-loop-r
+invariant-ordering-loop-r l = Kept 2 l.ts l.at l.n l.fn.out l.out l.r
 
-abbrev pub decreases-ordering-loop-f : goal.decreases-ordering-loop-f
-decreases-ordering-loop-f l = length l.ts - l.r.at
+abbrev pub decreases-ordering-loop-r : goal.decreases-ordering-loop-r
+decreases-ordering-loop-r l = to_come (length l.ts) l.r
 
-abbrev pub invariant-equality-loop-f : goal.invariant-equality-loop-f
-invariant-equality-loop-f l = Turn 3 l.ts l.at l.n l.fn.out l.out l.r
+abbrev pub invariant-equality-loop-r : goal.invariant-equality-loop-r
+invariant-equality-loop-r l = Kept 3 l.ts l.at l.n l.fn.out l.out l.r
 
-abbrev pub decreases-equality-loop-f : goal.decreases-equality-loop-f
-decreases-equality-loop-f l = length l.ts - l.r.at
+abbrev pub decreases-equality-loop-r : goal.decreases-equality-loop-r
+decreases-equality-loop-r l = to_come (length l.ts) l.r
 
-abbrev pub invariant-conjunction-loop-f : goal.invariant-conjunction-loop-f
-invariant-conjunction-loop-f l = Turn 4 l.ts l.at l.n l.fn.out l.out l.r
+abbrev pub invariant-conjunction-loop-r : goal.invariant-conjunction-loop-r
+invariant-conjunction-loop-r l = Kept 4 l.ts l.at l.n l.fn.out l.out l.r
 
-abbrev pub decreases-conjunction-loop-f : goal.decreases-conjunction-loop-f
-decreases-conjunction-loop-f l = length l.ts - l.r.at
+abbrev pub decreases-conjunction-loop-r : goal.decreases-conjunction-loop-r
+decreases-conjunction-loop-r l = to_come (length l.ts) l.r
 
-abbrev pub invariant-disjunction-loop-f : goal.invariant-disjunction-loop-f
-invariant-disjunction-loop-f l = Turn 5 l.ts l.at l.n l.fn.out l.out l.r
+abbrev pub invariant-disjunction-loop-r : goal.invariant-disjunction-loop-r
+invariant-disjunction-loop-r l = Kept 5 l.ts l.at l.n l.fn.out l.out l.r
 
-abbrev pub decreases-disjunction-loop-f : goal.decreases-disjunction-loop-f
-decreases-disjunction-loop-f l = length l.ts - l.r.at
+abbrev pub decreases-disjunction-loop-r : goal.decreases-disjunction-loop-r
+decreases-disjunction-loop-r l = to_come (length l.ts) l.r
