@@ -85,7 +85,9 @@ pub fn translate_at(text: &[u8], buffer: &mut [u8]) -> u64
     if limits::FORMULA_BYTES < text.len() {
         return answers::NO_FORMULA;
     }
-    let mut tokens = [Token::Comma; limits::FORMULA_BYTES];
+    // No byte of this token is other than zero, so one memset fills the array. Another token is stored place by place,
+    // which takes longer than a short formula's reading.
+    let mut tokens = [Token::Number(0); limits::FORMULA_BYTES];
     let Some(n) = text_lexer::scan(text, &mut tokens) else {
         return answers::NO_FORMULA;
     };
