@@ -153,6 +153,7 @@ module _ (d : List ℕ) (e ev n t i : ℕ) (q : e ≡ event_of_turn ev t) (b : i
     few = f.few;
     least = λ u j p. passed_one u j p (f.least u j) (λ x y. omega (arith, here u j x y, f.few));
     earlier = λ u j p l. passed_one u j p (λ o. f.earlier u j o l) (λ x y. omega (arith, here u j x y, f.few));
+    lowest = f.lowest;
   }
 
   module _ (r : ℕ) (s : r ≡ back_on d e n i) (h : r ≤ n) where
@@ -169,6 +170,7 @@ module _ (d : List ℕ) (e ev n t i : ℕ) (q : e ≡ event_of_turn ev t) (b : i
       few = h;
       least = λ u j p. passed_one u j p (λ o. omega (arith, f u j o)) (λ x y. omega (arith, here u j x y, s));
       earlier = λ u j p l. passed_one u j p (f u j) (λ x y. absurd (omega arith));
+      lowest = λ j l. rw q (f t j (omega arith, inr (refl, l)));
     }
 
     kept_walk : (w : Walk) → Fewest d ev n t i w → w.steps ≤ r → Fewest d ev n t (i + 1) w
@@ -180,6 +182,7 @@ module _ (d : List ℕ) (e ev n t i : ℕ) (q : e ≡ event_of_turn ev t) (b : i
       few = f.few;
       least = λ u j p. passed_one u j p (f.least u j) (λ x y. omega (arith, here u j x y, s, k));
       earlier = λ u j p l. passed_one u j p (λ o. f.earlier u j o l) (λ x y. absurd (omega (arith, not_later f.passed)));
+      lowest = f.lowest;
     }
 
     pub next_walk : (o : Option Walk) → FewestIfAny d ev n t i o → Fewest d ev n t (i + 1) (shorter_of o walk)

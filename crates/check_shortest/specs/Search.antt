@@ -26,7 +26,8 @@ shorter_of (Some first) second = pick (leb first.steps second.steps) first secon
 abbrev pub Passed : ℕ → ℕ → ℕ → ℕ → ℕ → Type 0
 Passed n t i u j = (j < n) × ((u < t) ⊎ ((u ≡ t) × (j < i)))
 
--- of the walks back of those passed, w has the fewest steps, and fewer than all of earlier turns
+-- of the walks back of those passed, w has the fewest steps, fewer than all of earlier turns, and fewer than those of
+-- lower behaviours of its own turn: of as many steps the first passed stays
 pub record Fewest (d : List ℕ) (ev n t i : ℕ) (w : Walk) : Type 0 where
   pub turn : ℕ
   pub event : w.event ≡ event_of_turn ev turn
@@ -35,6 +36,7 @@ pub record Fewest (d : List ℕ) (ev n t i : ℕ) (w : Walk) : Type 0 where
   pub few : w.steps ≤ n
   pub least : (u j : ℕ) → Passed n t i u j → w.steps ≤ back_on d (event_of_turn ev u) n j
   pub earlier : (u j : ℕ) → Passed n t i u j → u < turn → w.steps < back_on d (event_of_turn ev u) n j
+  pub lowest : (j : ℕ) → j < w.behaviour → w.steps < back_on d w.event n j
 
 -- none where none of those passed has a walk back
 abbrev pub FewestIfAny : List ℕ → ℕ → ℕ → ℕ → ℕ → Option Walk → Type 0
