@@ -22,6 +22,8 @@ impl Round {
 
     pub const BYTES: usize = 2048;
 
+    pub const WORD_COUNT: usize = 512;
+
     pub const TAKEN: usize = 0;
 
     pub const WAITING: usize = 1;
