@@ -1,23 +1,25 @@
--- Whether the codes fit, as the library's test of a whole list.
-use Rattle.lib_base.proofs.Prelude.{ℕ, ◌≡◌, refl, List, add-one, Bool, true, false, zero, suc, ◌∙◌, sym, ◌&&◌, subst, and-true, and-false}
-use Rattle.std.specs.List.{list_all, range_with_len}
+-- Whether the codes fit, event by event from the last on: those that are left decide, until one does not fit.
+use Rattle.lib_base.proofs.Prelude.{ℕ, ◌≤◌, ◌<◌, ◌-◌, ◌≡◌, refl, zero, suc, List, Bool, true, false, ◌∙◌, sym, arith}
 use Rattle.lib_base.specs.Basics.{pick}
 use Rattle.format_layout.specs.Layout.{event_word}
 use Rattle.format_layout.specs.Foreign.{code_fits, codes_fit}
-use Rattle.format_layout.proofs.Ranges.{all_range_more}
 
--- the code of event i fits
-abbrev pub fits_at : List ℕ → ℕ → Bool
-fits_at t i = code_fits (event_word t i 1) (event_word t i 2)
-
-swap : (a b : Bool) → pick a b false ≡ (b && a)
-swap true b = sym (and-true b)
-swap false b = sym (and-false b)
-
-pub codes_is : (t : List ℕ) (n : ℕ) → codes_fit t n ≡ list_all (fits_at t) (range_with_len 0 n)
+last_code : (t : List ℕ) (i : ℕ) → 0 < i → codes_fit t i ≡ pick (code_fits (event_word t (i - 1) 1) (event_word t (i - 1) 2)) (codes_fit t (i - 1)) false
 unfolding codes_fit
-codes_is t zero = refl
-codes_is t (suc n) =
-    let p = fits_at t in
-    rw (codes_is t n) (swap (p n) (list_all p (range_with_len 0 n)))
-    ∙ sym (subst (λ m. list_all p (range_with_len 0 m) ≡ (list_all p (range_with_len 0 n) && p n)) (add-one n) (all_range_more p n))
+last_code t zero h = absurd (omega arith)
+last_code t (suc i) h = let s : suc i - 1 ≡ i = omega arith in rw s
+
+-- the last code left does not fit
+pub not_fitting : (t : List ℕ) (i p q : ℕ) (x : Bool) → 0 < i → p ≡ event_word t (i - 1) 1 → q ≡ event_word t (i - 1) 2 → x ≡ code_fits p q
+    → x ≡ false → false ≡ codes_fit t i
+not_fitting t i p q x h d e f g = sym (rw (last_code t i h, ← d, ← e, ← f, g))
+
+-- the last code left does, and those before it decide
+pub fitting : (t : List ℕ) (i p q : ℕ) (x : Bool) → 0 < i → p ≡ event_word t (i - 1) 1 → q ≡ event_word t (i - 1) 2 → x ≡ code_fits p q
+    → x ≡ true → codes_fit t i ≡ codes_fit t (i - 1)
+fitting t i p q x h d e f g = rw (last_code t i h, ← d, ← e, ← f, g)
+
+-- no code is left
+pub none_left : (t : List ℕ) (i : ℕ) → i ≤ 0 → codes_fit t i ≡ true
+unfolding codes_fit
+none_left t i h = let z : i ≡ 0 = omega arith in rw z

@@ -1,8 +1,8 @@
--- A range with one number more, and the library's tests over it: what a definition that counts down says.
-use Rattle.lib_base.proofs.Prelude.{ℕ, ◌+◌, ◌≡◌, refl, List, [], ◌∷◌, ◌++◌, Bool, ◌&&◌, ◌||◌, and-true, or-false, arith}
-use Rattle.std.specs.List.{list_all, list_any, range_with_len}
+-- A range with one number more, and the library's test over it: what a definition that counts down says.
+use Rattle.lib_base.proofs.Prelude.{ℕ, ◌+◌, ◌≡◌, refl, List, [], ◌∷◌, ◌++◌, Bool, ◌&&◌, and-true, arith}
+use Rattle.std.specs.List.{list_all, range_with_len}
 use Rattle.std.proofs.lemmas.List.{map-id}
-use Rattle.std.proofs.lemmas.List.Folds.{list_all-append, list_any-append}
+use Rattle.std.proofs.lemmas.List.Folds.{list_all-append}
 use Rattle.std.proofs.lemmas.List.FromFn.{map-range_with_len_more}
 
 range_more : (n : ℕ) → range_with_len 0 (n + 1) ≡ range_with_len 0 n ++ n ∷ []
@@ -12,6 +12,3 @@ range_more n =
 
 pub all_range_more : (p : ℕ → Bool) (n : ℕ) → list_all p (range_with_len 0 (n + 1)) ≡ (list_all p (range_with_len 0 n) && p n)
 all_range_more p n = rw (range_more n, list_all-append p (range_with_len 0 n) (n ∷ []), and-true (p n))
-
-pub any_range_more : (p : ℕ → Bool) (n : ℕ) → list_any p (range_with_len 0 (n + 1)) ≡ (list_any p (range_with_len 0 n) || p n)
-any_range_more p n = rw (range_more n, list_any-append p (range_with_len 0 n) (n ∷ []), or-false (p n))

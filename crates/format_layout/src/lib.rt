@@ -74,12 +74,13 @@ fn codes_fit(table: &[u8], n: u32) -> bool
     requires { (table_bytes ≤ length table.now) × (n ≤ event_limit) }
     ensures { result ≡ codes_fit table.now n }
 {
-    (0..n).all(|i| {
-        code_fits(
-            event_word(table, i, table::CODE_START),
-            event_word(table, i, table::CODE_LENGTH),
-        )
-    })
+    for i in (0..n).rev() {
+        let start = event_word(table, i, table::CODE_START);
+        if !code_fits(start, event_word(table, i, table::CODE_LENGTH)) {
+            return false;
+        }
+    }
+    true
 }
 
 // Whether a table is not foreign: 01's conditions on it.

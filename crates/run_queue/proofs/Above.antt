@@ -1,23 +1,25 @@
--- Whether one waits above a priority, as the library's test of a whole list.
-use Rattle.lib_base.proofs.Prelude.{ℕ, ◌≡◌, refl, List, add-one, Bool, true, false, zero, suc, ◌∙◌, sym, ◌||◌, subst, or-true, or-false, ltb}
-use Rattle.std.specs.List.{list_any, range_with_len}
+-- Whether one waits above a priority, slot by slot from the last on: those left decide, until one is above.
+use Rattle.lib_base.proofs.Prelude.{ℕ, ◌≤◌, ◌<◌, ◌-◌, ◌≡◌, refl, zero, suc, List, true, false, ◌∙◌, sym, ltb, lt-ltb, le-ltb, arith}
 use Rattle.lib_base.specs.Basics.{pick}
 use Rattle.format_layout.specs.Layout.{event_word, event_at}
-use Rattle.format_layout.proofs.Ranges.{any_range_more}
 use Rattle.run_queue.specs.Queue.{any_above}
 
--- what waits in slot i has a priority above p
-abbrev pub above_at : List ℕ → List ℕ → ℕ → ℕ → Bool
-above_at t l p i = ltb p (event_word t (event_at l i) 0)
-
-swap : (a b : Bool) → pick a true b ≡ (b || a)
-swap true b = sym (or-true b)
-swap false b = sym (or-false b)
-
-pub above_is : (t l : List ℕ) (p n : ℕ) → any_above t l p n ≡ list_any (above_at t l p) (range_with_len 0 n)
+last_slot : (t l : List ℕ) (p i : ℕ) → 0 < i
+    → any_above t l p i ≡ pick (ltb p (event_word t (event_at l (i - 1)) 0)) true (any_above t l p (i - 1))
 unfolding any_above
-above_is t l p zero = refl
-above_is t l p (suc n) =
-    let q = above_at t l p in
-    rw (above_is t l p n) (swap (q n) (list_any q (range_with_len 0 n)))
-    ∙ sym (subst (λ m. list_any q (range_with_len 0 m) ≡ (list_any q (range_with_len 0 n) || q n)) (add-one n) (any_range_more q n))
+last_slot t l p zero h = absurd (omega arith)
+last_slot t l p (suc i) h = let s : suc i - 1 ≡ i = omega arith in rw s
+
+-- the last slot left is above
+pub is_above : (t l : List ℕ) (p i q : ℕ) → 0 < i → q ≡ event_word t (event_at l (i - 1)) 0 → p < q → true ≡ any_above t l p i
+is_above t l p i q h e g = sym (rw (last_slot t l p i h, ← e, lt-ltb p q g))
+
+-- the last slot left is not, and those before it decide
+pub not_above : (t l : List ℕ) (p i q : ℕ) → 0 < i → q ≡ event_word t (event_at l (i - 1)) 0 → q ≤ p
+    → any_above t l p i ≡ any_above t l p (i - 1)
+not_above t l p i q h e g = rw (last_slot t l p i h, ← e, le-ltb p q g)
+
+-- no slot is left
+pub none_above : (t l : List ℕ) (p i : ℕ) → i ≤ 0 → any_above t l p i ≡ false
+unfolding any_above
+none_above t l p i h = let z : i ≡ 0 = omega arith in rw z

@@ -62,7 +62,12 @@ pub fn is_any_above(table: &[u8], round: &[u8], p: u32, n: usize) -> bool
     requires { (table_bytes ≤ length table.now) × (round_bytes ≤ length round.now) × (n ≤ queue_limit) × EventsKnown round.now n }
     ensures { result ≡ any_above table.now round.now p n }
 {
-    (0..n).any(|i| p < priority_at(table, round, i))
+    for i in (0..n).rev() {
+        if p < priority_at(table, round, i) {
+            return true;
+        }
+    }
+    false
 }
 
 // Arrival `number`, with the word of its event and player, waits in slot i.

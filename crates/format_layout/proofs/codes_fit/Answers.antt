@@ -1,12 +1,19 @@
--- The test of the events finds what the definition finds.
-use Rattle.lib_base.proofs.Prelude.{◌∙◌, sym, refl, arith, rules}
-use Rattle.std.proofs.Common.{tests}
-use Rattle.std.proofs.lemmas.Iterator.{YieldsList-from_range}
-use Rattle.std.proofs.lemmas.Iterator.Search.{all_from_yields_List}
-use Rattle.format_layout.proofs.Codes.{fits_at, codes_is}
+-- The test of the events from the last on finds what the definition finds.
+use Rattle.lib_base.proofs.Prelude.{◌∙◌, sym, arith}
+use Rattle.format_layout.proofs.Codes.{not_fitting, fitting, none_left}
 use Rattle.format_layout.proofs.codes_fit.Goals as goal
 
+pub returns-then-not-code_fits : goal.returns-then-not-code_fits
+returns-then-not-code_fits c =
+    not_fitting _ c.loop-i.i c.event_word-start.result c.event_word.result c.code_fits.result (omega (arith, c.loop-i-test.true)) c.event_word-start.ensures
+    c.event_word.ensures c.code_fits.ensures c.if-not-code_fits.true
+    ∙ sym c.loop-i.invariant
+
+pub loop-i-preserved : goal.loop-i-preserved
+loop-i-preserved c =
+    c.loop-i.invariant
+    ∙ fitting _ c.loop-i.i c.event_word-start.result c.event_word.result c.code_fits.result (omega (arith, c.loop-i-test.true)) c.event_word-start.ensures
+    c.event_word.ensures c.code_fits.ensures c.if-not-code_fits.false
+
 pub returns : goal.returns
-returns c =
-    all_from_yields_List (fits_at c.args.table.now) _ _ _ c.all.ensures.ran (YieldsList-from_range 0 c.args.n c.args.n refl (omega arith))
-    (λ x b q k. search (rules, tests)) ∙ sym (codes_is c.args.table.now c.args.n)
+returns c = sym (c.loop-i.invariant ∙ none_left _ c.loop-i.i (omega (arith, c.loop-i-test.false)))

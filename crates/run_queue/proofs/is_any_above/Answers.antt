@@ -1,13 +1,18 @@
--- The test of all slots finds what the definition finds.
-use Rattle.lib_base.proofs.Prelude.{◌∙◌, sym, refl, arith, rules}
-use Rattle.std.proofs.Common.{tests}
-use Rattle.std.proofs.lemmas.Iterator.{YieldsList-from_range}
-use Rattle.std.proofs.lemmas.Iterator.Search.{any_from_yields_List}
-use Rattle.run_queue.proofs.Above.{above_at, above_is}
+-- The test of the slots from the last on finds what the definition finds.
+use Rattle.lib_base.proofs.Prelude.{◌∙◌, sym, arith}
+use Rattle.run_queue.proofs.Above.{is_above, not_above, none_above}
 use Rattle.run_queue.proofs.is_any_above.Goals as goal
 
+pub returns-then-p-priority_at : goal.returns-then-p-priority_at
+returns-then-p-priority_at c =
+    is_above _ _ _ c.loop-i.i c.priority_at.result (omega (arith, c.loop-i-test.true)) c.priority_at.ensures c.if-p-priority_at.true
+    ∙ sym c.loop-i.invariant
+
+pub loop-i-preserved : goal.loop-i-preserved
+loop-i-preserved c =
+    c.loop-i.invariant
+    ∙ not_above _ _ _ c.loop-i.i c.priority_at.result (omega (arith, c.loop-i-test.true)) c.priority_at.ensures
+    (omega (arith, c.if-p-priority_at.false))
+
 pub returns : goal.returns
-returns c =
-    any_from_yields_List (above_at c.args.table.now c.args.round.now c.args.p) _ _ _ c.any.ensures.ran
-    (YieldsList-from_range 0 c.args.n c.args.n refl (omega arith))
-    (λ x b q k. search (rules, tests)) ∙ sym (above_is c.args.table.now c.args.round.now c.args.p c.args.n)
+returns c = sym (c.loop-i.invariant ∙ none_above _ _ _ c.loop-i.i (omega (arith, c.loop-i-test.false)))
