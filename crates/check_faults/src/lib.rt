@@ -50,10 +50,14 @@ fn add_need(set: u64, but: usize, n: usize, x: u64) -> u64
     requires { n ≤ behaviour_limit }
     ensures { (b : ℕ) → bit result b ≡ bit set b || (ltb b n && node_names but b x) }
 {
-    match draft_form::name_of(x) {
-        Some(j) if j < n && j != but => lib_bits::insert(set, j),
-        _ => set,
+    // most nodes are no name, and leave at once
+    let Some(j) = draft_form::name_of(x) else {
+        return set;
+    };
+    if j < n && j != but {
+        return lib_bits::insert(set, j);
     }
+    set
 }
 
 // The names of the first n in the entry, as behaviour i means them, as a set.

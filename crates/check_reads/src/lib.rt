@@ -25,10 +25,14 @@ pub type Sets = [u64; limits::EVENTS];
 fn add_name(set: u64, x: u64) -> u64
     ensures { (j : ℕ) → j < behaviour_limit → bit result j ≡ bit set j || is_name j x }
 {
-    match draft_form::name_of(x) {
-        Some(j) if j < limits::BEHAVIOURS => lib_bits::insert(set, j),
-        _ => set,
+    // most nodes are no name, and leave at once
+    let Some(j) = draft_form::name_of(x) else {
+        return set;
+    };
+    if j < limits::BEHAVIOURS {
+        return lib_bits::insert(set, j);
     }
+    set
 }
 
 // The names in entry v of behaviour i, as i means them.

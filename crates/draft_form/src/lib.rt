@@ -100,13 +100,15 @@ pub fn moved_node(draft: &Draft, i: usize, node: u64) -> u64
     requires { i < behaviour_limit }
     ensures { result ≡ moved draft.now i node }
 {
-    let place = draft[layout::PLACES + i];
-    match name_of(node) {
-        Some(m)
-            if m < limits::BEHAVIOURS
-                && draft[layout::PLACES + m] == place / layout::CELLS * layout::CELLS => {
-            node + place % layout::CELLS
+    // most nodes are no name, and leave at once
+    let Some(m) = name_of(node) else {
+        return node;
+    };
+    if m < limits::BEHAVIOURS {
+        let place = draft[layout::PLACES + i];
+        if draft[layout::PLACES + m] == place / layout::CELLS * layout::CELLS {
+            return node + place % layout::CELLS;
         }
-        _ => node,
     }
+    node
 }
