@@ -38,10 +38,13 @@ fn add_leading(set: u64, j: usize, needs: u64, others: u64) -> u64
     requires { j < behaviour_limit }
     ensures { (x : ℕ) → bit result x ≡ bit set x || (any_below behaviour_limit (λ h. bit needs h && bit others h) && eqb x j) }
 {
-    if is_common(needs, others) {
-        return lib_bits::insert(set, j);
-    }
-    set
+    // the bit is made apart from the set, so that a set of many is not one chain of choices
+    let own = if is_common(needs, others) {
+        lib_bits::insert(0, j)
+    } else {
+        0
+    };
+    lib_bits::union_of(set, own)
 }
 
 // Those of the first n that need one of the set.
