@@ -35,6 +35,7 @@ use source_walk::{BYTE, heads_from, needed_from};
 use spec_language::{answers, limits};
 
 // A sign, and the name that stands behind it.
+#[inline(always)]
 fn write_named(pen: &mut Pen, word: u8, letter: u8, i: usize)
     requires { (pen.old.at ≤ pen_limit) × IsSign word × (i < byte_values) }
     ensures { TokensPut pen.old pen.new (sign 0 word ∷ name 0 (letter ∷ digits i) ∷ []) }

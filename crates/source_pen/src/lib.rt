@@ -53,6 +53,7 @@ fn runs_together(a: u8, b: u8) -> bool
 }
 
 // The bytes of a sign: an operator or `if`, or a mark or a word of the text's own; none of the end of the text.
+#[inline(always)]
 #[tactic(auto, unfolding(source_rendering::specs::Describe::spelled_as, source_language::specs::Tokens::marks, source_language::specs::Tokens::reserved))]
 fn spelling(c: u8) -> &'static [u8]
     requires { IsSign c }
@@ -125,6 +126,7 @@ pub struct Pen<'a> {
 
 impl<'a> Pen<'a> {
     // One byte: the only place that writes.
+    #[inline(always)]
     fn byte(&mut self, b: u8)
         requires { self.old.at ≤ token_limit }
         ensures { Penned self.old self.new (b ∷ []) }
@@ -137,6 +139,7 @@ impl<'a> Pen<'a> {
     }
 
     // Bytes in a row.
+    #[inline(always)]
     fn bytes(&mut self, text: &[u8])
         requires { (self.old.at ≤ spelling_limit) × (length text.now ≤ longest_name) }
         ensures { Penned self.old self.new text.now }
@@ -147,6 +150,7 @@ impl<'a> Pen<'a> {
     }
 
     // A token's bytes, after a space where its first would run into the last that is written.
+    #[inline(always)]
     fn apart(&mut self, text: &[u8])
         requires { (self.old.at ≤ word_values) × (0 < length text.now) × (length text.now ≤ longest_name) }
         ensures bytes { Penned self.old self.new (space_after self.old.last (first_byte text.now) ++ text.now) }
@@ -159,6 +163,7 @@ impl<'a> Pen<'a> {
     }
 
     // A sign after what stands before it: declarations begin a line, handlers one below theirs, two spaces in.
+    #[inline(always)]
     fn put_sign(&mut self, c: u8)
         requires { (self.old.at ≤ word_values) × IsSign c }
         ensures bytes { Penned self.old self.new (token_after self.old.last (sign 0 c)) }
@@ -202,6 +207,7 @@ impl<'a> Pen<'a> {
     }
 
     // A token.
+    #[inline(always)]
     pub fn put(&mut self, token: Token)
         requires { (self.old.at ≤ word_values) × Writable token }
         ensures tokens { TokensPenned self.old self.new (token_of token ∷ []) }

@@ -22,6 +22,7 @@ use source_pen::{Pen, Token};
 use source_walk::BYTE;
 
 // A token; nothing where the text is over its length, as no accepted sheet's is.
+#[inline(always)]
 pub fn write(pen: &mut Pen, token: Token)
     requires { (pen.old.at ≤ pen_limit) × Writable token }
     ensures { TokensPut pen.old pen.new (token_of token ∷ []) }
@@ -101,6 +102,7 @@ fn second_level(f: u8) -> u64
 }
 
 // A bracket, unless the operator is tight enough to do without.
+#[inline(always)]
 fn put_unless(pen: &mut Pen, f: u8, level: u64, c: u8)
     requires { (pen.old.at ≤ pen_limit) × IsSign c }
     ensures { TokensPut pen.old pen.new (unless (leb (tightness f) level) c []) }
