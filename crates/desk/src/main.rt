@@ -3,8 +3,9 @@
 
 #![tactic(auto)]
 
-ghost use Rattle.std.specs.Prelude.{◌<◌};
+ghost use Rattle.std.specs.Prelude.{◌≤◌, ◌<◌, length};
 ghost use Rattle.io.specs.Counts.{IsPrefixLen};
+ghost use Rattle.spec_language.specs.Limits.{behaviour_limit};
 
 use desk_format::lines::{Board, Refused, Stepped};
 use desk_format::tags;
@@ -80,7 +81,10 @@ impl Desk {
 
     fn steps(&mut self, rt: &HostRuntime, count: u32) {
         for _ in 0..count {
-            print(rt, Stepped(engine::step(&self.table, &mut self.round)));
+            let stepped = Stepped(engine::step(&self.table, &mut self.round));
+            if stepped.has_line() {
+                print(rt, stepped);
+            }
         }
     }
 
@@ -94,7 +98,9 @@ impl Desk {
     }
 
     // The board's values, as many as the program has: the part of `space` that they fill.
-    fn read_board<'a>(&self, space: &'a mut [u32; limits::BEHAVIOURS]) -> &'a [u32] {
+    fn read_board<'a>(&self, space: &'a mut [u32; limits::BEHAVIOURS]) -> &'a [u32]
+        ensures { length result.now ≤ behaviour_limit }
+    {
         for i in 0..limits::BEHAVIOURS {
             let Some(value) = self.value(i as u32) else {
                 return &space[..i];

@@ -1,5 +1,5 @@
 // The lines that the program prints, each by its Display. Nothing is allocated: a line has no memory that can fail.
-ghost use Rattle.std.specs.Prelude.{Some};
+ghost use Rattle.std.specs.Prelude.{Some, ◌≡◌, false, []};
 ghost use Rattle.desk_format.specs.Script.{refusal_line, commit_line, step_line, board_line};
 
 use spec_language::answers;
@@ -48,6 +48,16 @@ impl fmt::Display for Committed {
 // What a step's answer prints; nothing where it is neither a refusal nor a commit.
 #[derive(Clone, Copy, Drop)]
 pub struct Stepped(pub u64);
+
+impl Stepped {
+    // Whether there is a line. To print nothing takes as long as to print a line: most steps are spared it.
+    #[tactic(auto, using(lib_base::proofs::Pick::branches), unfolding(crate::specs::Script::step_line))]
+    pub fn has_line(self) -> bool
+        ensures { result ≡ false → step_line self.0 ≡ [] }
+    {
+        self.0 == answers::FOREIGN || self.0 % KINDS == answers::COMMITTED
+    }
+}
 
 impl fmt::Display for Stepped {
     ghost output = { λ line. Some (step_line line.0) };
