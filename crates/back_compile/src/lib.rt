@@ -89,6 +89,7 @@ pub fn compile_number(sheet: &[u8], params: &[u8]) -> u32
 
 // 1; then as the sheet is judged: 3, the reading, 11, 20, 12, 13; then the table, from its first byte on. 0, or the
 // number of a refusal, which leaves the table as it was.
+#[tactic(auto, using(crate::proofs::JudgeLaws::compile_short))]
 pub fn compile_at(sheet: &[u8], params: &[u8], table: &mut [u8]) -> u32
     ensures { compiled result table.new ≡ compile_on sheet.now params.now table.old }
 {

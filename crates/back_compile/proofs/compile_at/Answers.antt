@@ -1,12 +1,8 @@
--- Each answer is a branch of `compile_on`: 1, or as the sheet is judged.
-use Rattle.lib_base.proofs.Prelude.{ℕ, ◌∙◌, sym, ap, arith}
+-- Each answer of the judging is a branch of `compile_on`.
+use Rattle.lib_base.proofs.Prelude.{◌∙◌, sym, ap, arith}
 use Rattle.back_compile.specs.Compiled.{compiled}
-use Rattle.back_compile.proofs.JudgeLaws.{compile_short}
 use Rattle.back_compile.proofs.Judging.{not_passed}
 use Rattle.back_compile.proofs.compile_at.Goals as goal
-
-pub returns-then-table-lt-BYTES : goal.returns-then-table-lt-BYTES
-returns-then-table-lt-BYTES c = ap (λ (n : ℕ). compiled n c.args.table.now) c.number.ensures ∙ sym (compile_short _ _ _ (omega arith))
 
 pub returns-in-Err : goal.returns-in-Err
 returns-in-Err c = not_passed _ _ _ _ _ c.in-Err.ensures (omega arith) c.number-in-Err.ensures
