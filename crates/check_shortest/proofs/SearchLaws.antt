@@ -11,7 +11,7 @@ use Rattle.check_faults.specs.Checks.{matrix_on, closed_on, cyclic_on}
 use Rattle.check_distance.specs.Circle.{Circle}
 use Rattle.check_distance.specs.Layers.{layer, steps_back, Layered, Back, BackIfAny, Walked}
 use Rattle.check_distance.proofs.Walks.{least_from_law, least_holds, circle_back, back_decides, layer_same, back_same, walked_same}
-use Rattle.check_shortest.specs.Search.{back_on, event_of_turn, shorter_of, Passed, Fewest, FewestIfAny, Wide, CircleMembers, handed, ShortestFound}
+use Rattle.check_shortest.specs.Search.{back_on, event_of_turn, shorter_of, Passed, Fewest, FewestIfAny, Earliest, EarliestIfAny, Wide, CircleMembers, handed, ShortestFound}
 use Rattle.check_shortest.specs.declared.Walk.{Walk}
 use Rattle.check_shortest.specs.EventNumber.{event_number}
 
@@ -123,6 +123,11 @@ pub back_none : (d : List ℕ) (e n i : ℕ) (m : List ℕ) → Alike m d e n �
 unfolding back_on
 back_none d e n i m q b w = let z = back_same n (λ x y. cell m x y) (λ x y. cell (matrix_on d e n) x y) q i b in omega (arith, z, w)
 
+-- the earliest of the fewest is one of the fewest
+pub fewest_of : (d : List ℕ) (ev n t i : ℕ) (o : Option Walk) → EarliestIfAny d ev n t i o → FewestIfAny d ev n t i o
+fewest_of d ev n t i None f = f
+fewest_of d ev n t i (Some w) f = f.fewest
+
 -- the next behaviour
 module _ (d : List ℕ) (e ev n t i : ℕ) (q : e ≡ event_of_turn ev t) (b : i < n) where
   -- one passed now was passed before, or is the next
@@ -153,8 +158,11 @@ module _ (d : List ℕ) (e ev n t i : ℕ) (q : e ≡ event_of_turn ev t) (b : i
     few = f.few;
     least = λ u j p. passed_one u j p (f.least u j) (λ x y. omega (arith, here u j x y, f.few));
     earlier = λ u j p l. passed_one u j p (λ o. f.earlier u j o l) (λ x y. omega (arith, here u j x y, f.few));
-    lowest = f.lowest;
   }
+
+  pub next_earliest_none : (o : Option Walk) → EarliestIfAny d ev n t i o → n < back_on d e n i → EarliestIfAny d ev n t (i + 1) o
+  next_earliest_none None f h = next_none None f h
+  next_earliest_none (Some w) f h = record { fewest = next_none (Some w) f.fewest h; lowest = f.lowest }
 
   module _ (r : ℕ) (s : r ≡ back_on d e n i) (h : r ≤ n) where
     abbrev walk : Walk
@@ -170,7 +178,6 @@ module _ (d : List ℕ) (e ev n t i : ℕ) (q : e ≡ event_of_turn ev t) (b : i
       few = h;
       least = λ u j p. passed_one u j p (λ o. omega (arith, f u j o)) (λ x y. omega (arith, here u j x y, s));
       earlier = λ u j p l. passed_one u j p (f u j) (λ x y. absurd (omega arith));
-      lowest = λ j l. rw q (f t j (omega arith, inr (refl, l)));
     }
 
     kept_walk : (w : Walk) → Fewest d ev n t i w → w.steps ≤ r → Fewest d ev n t (i + 1) w
@@ -182,7 +189,6 @@ module _ (d : List ℕ) (e ev n t i : ℕ) (q : e ≡ event_of_turn ev t) (b : i
       few = f.few;
       least = λ u j p. passed_one u j p (f.least u j) (λ x y. omega (arith, here u j x y, s, k));
       earlier = λ u j p l. passed_one u j p (λ o. f.earlier u j o l) (λ x y. absurd (omega (arith, not_later f.passed)));
-      lowest = f.lowest;
     }
 
     pub next_walk : (o : Option Walk) → FewestIfAny d ev n t i o → Fewest d ev n t (i + 1) (shorter_of o walk)
@@ -192,6 +198,24 @@ module _ (d : List ℕ) (e ev n t i : ℕ) (q : e ≡ event_of_turn ev t) (b : i
         by_cases (dec_lt r w.steps)
         (λ l. rw (lt-leb w.steps r l) (taken_walk (λ u j p. omega (arith, f.least u j p))))
         (λ l. let k : w.steps ≤ r = omega arith in rw (le-leb w.steps r k) (kept_walk w f k))
+
+    -- no lower behaviour of its turn has as few
+    abbrev Low : Walk → Type 0
+    Low w = (j : ℕ) → j < w.behaviour → w.steps < back_on d w.event n j
+
+    taken_low : ((j : ℕ) → j < i → r < back_on d (event_of_turn ev t) n j) → Low walk
+    taken_low f j l = rw q (f j l)
+
+    next_low : (o : Option Walk) → EarliestIfAny d ev n t i o → Low (shorter_of o walk)
+    unfolding shorter_of
+    next_low None f = taken_low (λ j l. omega (arith, f t j (omega arith, inr (refl, l))))
+    next_low (Some w) f =
+        by_cases (dec_lt r w.steps)
+        (λ l. rw (lt-leb w.steps r l) (taken_low (λ j p. omega (arith, f.fewest.least t j (omega arith, inr (refl, p))))))
+        (λ l. let k : w.steps ≤ r = omega arith in rw (le-leb w.steps r k) f.lowest)
+
+    pub next_earliest : (o : Option Walk) → EarliestIfAny d ev n t i o → Earliest d ev n t (i + 1) (shorter_of o walk)
+    next_earliest o f = record { fewest = next_walk o (fewest_of d ev n t i o f); lowest = next_low o f }
 
 -- the event of a turn is declared, or none
 pub turn_event : (ev t : ℕ) {e : ℕ} → t ≤ ev → e ≡ event_of_turn ev t → e ≤ ev

@@ -26,8 +26,7 @@ shorter_of (Some first) second = pick (leb first.steps second.steps) first secon
 abbrev pub Passed : ℕ → ℕ → ℕ → ℕ → ℕ → Type 0
 Passed n t i u j = (j < n) × ((u < t) ⊎ ((u ≡ t) × (j < i)))
 
--- of the walks back of those passed, w has the fewest steps, fewer than all of earlier turns, and fewer than those of
--- lower behaviours of its own turn: of as many steps the first passed stays
+-- of the walks back of those passed, w has the fewest steps, and fewer than all of earlier turns
 pub record Fewest (d : List ℕ) (ev n t i : ℕ) (w : Walk) : Type 0 where
   pub turn : ℕ
   pub event : w.event ≡ event_of_turn ev turn
@@ -36,12 +35,20 @@ pub record Fewest (d : List ℕ) (ev n t i : ℕ) (w : Walk) : Type 0 where
   pub few : w.steps ≤ n
   pub least : (u j : ℕ) → Passed n t i u j → w.steps ≤ back_on d (event_of_turn ev u) n j
   pub earlier : (u j : ℕ) → Passed n t i u j → u < turn → w.steps < back_on d (event_of_turn ev u) n j
-  pub lowest : (j : ℕ) → j < w.behaviour → w.steps < back_on d w.event n j
 
 -- none where none of those passed has a walk back
 abbrev pub FewestIfAny : List ℕ → ℕ → ℕ → ℕ → ℕ → Option Walk → Type 0
 FewestIfAny d ev n t i None = (u j : ℕ) → Passed n t i u j → n < back_on d (event_of_turn ev u) n j
 FewestIfAny d ev n t i (Some w) = Fewest d ev n t i w
+
+-- and fewer than those of lower behaviours of its own turn: of as many steps the first passed stays
+pub record Earliest (d : List ℕ) (ev n t i : ℕ) (w : Walk) : Type 0 where
+  pub fewest : Fewest d ev n t i w
+  pub lowest : (j : ℕ) → j < w.behaviour → w.steps < back_on d w.event n j
+
+abbrev pub EarliestIfAny : List ℕ → ℕ → ℕ → ℕ → ℕ → Option Walk → Type 0
+EarliestIfAny d ev n t i None = FewestIfAny d ev n t i None
+EarliestIfAny d ev n t i (Some w) = Earliest d ev n t i w
 
 -- what the search asks of a draft: its matrices are whole
 abbrev pub Wide : List ℕ → ℕ → ℕ → Type 0

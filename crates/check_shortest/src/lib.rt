@@ -5,7 +5,7 @@
 
 ghost use Rattle.std.specs.Prelude.{◌≡◌, true, ℕ, ◌+◌, ◌≤◌, ◌<◌, length, Some};
 ghost use Rattle.check_faults.specs.Checks.{cyclic_on, RowsInside, AllInside};
-ghost use Rattle.check_shortest.specs.Search.{back_on, event_of_turn, shorter_of, FewestIfAny, Wide, CircleMembers, handed, ShortestFound};
+ghost use Rattle.check_shortest.specs.Search.{back_on, event_of_turn, shorter_of, FewestIfAny, EarliestIfAny, Wide, CircleMembers, handed, ShortestFound};
 ghost use Rattle.check_shortest.specs.EventNumber.{event_number};
 ghost use Rattle.spec_language.specs.Limits.{behaviour_limit, event_limit};
 ghost use Rattle.lib_base.specs.Words.{byte_values};
@@ -62,7 +62,8 @@ fn best_under(
     best: Option<Walk>,
 ) -> Option<Walk>
     requires { (e ≤ event_limit) × (n ≤ behaviour_limit) × RowsInside d.now e n }
-    ensures { (ev t : ℕ) → e ≡ event_of_turn ev t → FewestIfAny d.now ev n t 0 best → FewestIfAny d.now ev n t n result }
+    ensures earliest { (ev t : ℕ) → e ≡ event_of_turn ev t → EarliestIfAny d.now ev n t 0 best → EarliestIfAny d.now ev n t n result }
+    ensures fewest { (ev t : ℕ) → e ≡ event_of_turn ev t → FewestIfAny d.now ev n t 0 best → FewestIfAny d.now ev n t n result }
 {
     check_faults::fill_rows(d, e, n, rows);
     let mut shortest = best;
@@ -83,7 +84,7 @@ fn best_under(
 // The same over none and ev events.
 fn shortest(d: &Draft, ev: usize, n: usize) -> Option<Walk>
     requires { (ev ≤ event_limit) × (n ≤ behaviour_limit) × AllInside d.now ev n }
-    ensures { FewestIfAny d.now ev n (ev + 1) 0 result }
+    ensures { EarliestIfAny d.now ev n (ev + 1) 0 result }
 {
     let mut rows = [0u64; ROW];
     let mut levels = [0u64; LEVELS];
